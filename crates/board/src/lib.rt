@@ -1,0 +1,203 @@
+// The board, the place at which a pod talks to it, making them, and their ranges (01, "The board and its parts", "Refusal numbers").
+ghost use mathlib.Core.Path.{_≡_};
+ghost use Rattle.board.specs.Board.{freshBoard, freshPlace, MakingMeets};
+ghost use Rattle.board.specs.Ranges.{bstatInRange, phaseInRange, inRange};
+use command::Command;
+use grounds::Ground;
+use grounds::Verdict;
+
+// All that a bus event or the breakpoint input may change.
+pub struct Status {
+    pub halted: bool,
+    pub fof: bool,
+    pub trg: bool,
+    pub halt: bool,
+    pub bkpt: bool,
+    pub bstat: u32,
+    // A SYNC_PC is pending.
+    pub sync: bool,
+}
+
+// D0 to D7 and A0 to A7; the control registers in the order of document 01.
+pub struct Registers {
+    pub general: [u32; 16],
+    pub control: [u32; 10],
+}
+
+// Of CSR the bits that are written.
+pub struct Debug {
+    pub csr: u32,
+    pub baar: u32,
+    pub aatr: u32,
+    pub tdr: u32,
+    pub pbr: u32,
+    pub pbmr: u32,
+    pub abhr: u32,
+    pub ablr: u32,
+    pub dbr: u32,
+    pub dbmr: u32,
+}
+
+// What all who talk to the board share.
+pub struct Board {
+    pub w: u32,
+    pub status: Status,
+    pub registers: Registers,
+    pub debug: Debug,
+}
+
+// The operand words taken, the last four, oldest first.
+pub struct Operands {
+    pub oldest: u16,
+    pub older: u16,
+    pub newer: u16,
+    pub newest: u16,
+}
+
+pub enum Phase {
+    Rest,
+    // The command, and the operand words still due.
+    Due(Command, u32, Operands),
+    // The command, the packets still to wait, the address and the data.
+    Waiting(Command, u32, u32, u32),
+    // The upper result word is the next reply; the low one is held.
+    Low(u16),
+}
+
+pub enum Chain {
+    Off,
+    Dumping,
+    Filling,
+}
+
+// What one who talks to the board has of his own.
+pub struct Place {
+    pub phase: Phase,
+    pub chain: Chain,
+    pub pointer: u32,
+    pub next: u32,
+}
+
+// Where the making is refused, a board of W = 0 stands in.
+pub struct Made {
+    pub verdict: Verdict,
+    pub board: Board,
+    pub place: Place,
+}
+
+fn new_board(w: u32) -> Board
+    ensures { λ r. ⌜ r ≡ freshBoard w ⌝ }
+{
+    Board {
+        w: w,
+        status: Status {
+            halted: true,
+            fof: false,
+            trg: false,
+            halt: false,
+            bkpt: true,
+            bstat: 0,
+            sync: false,
+        },
+        registers: Registers {
+            general: [0u32; 16],
+            control: [0u32; 10],
+        },
+        debug: Debug {
+            csr: 0,
+            baar: 0x05,
+            aatr: 0x0005,
+            tdr: 0,
+            pbr: 0,
+            pbmr: 0,
+            abhr: 0,
+            ablr: 0,
+            dbr: 0,
+            dbmr: 0,
+        },
+    }
+}
+
+fn new_place() -> Place
+    ensures { λ r. ⌜ r ≡ freshPlace ⌝ }
+{
+    Place {
+        phase: Phase::Rest,
+        chain: Chain::Off,
+        pointer: 0,
+        next: 0x0FFFF,
+    }
+}
+
+pub fn make(w: u32) -> Made
+    ensures { λ r. ⌜ MakingMeets w r ⌝ }
+{
+    if w <= 15 {
+        return Made {
+            verdict: Verdict::Accepted,
+            board: new_board(w),
+            place: new_place(),
+        };
+    }
+    Made {
+        verdict: Verdict::Refused(Ground::WaitTooLarge),
+        board: new_board(0),
+        place: new_place(),
+    }
+}
+
+fn is_bstat(bstat: u32) -> bool
+    ensures { λ r. ⌜ r ≡ bstatInRange bstat ⌝ }
+{
+    match bstat {
+        0 => true,
+        1 => true,
+        2 => true,
+        5 => true,
+        6 => true,
+        _ => false,
+    }
+}
+
+fn is_phase(phase: Phase, w: u32) -> bool
+    ensures { λ r. ⌜ r ≡ phaseInRange w phase ⌝ }
+{
+    match phase {
+        Phase::Rest => true,
+        Phase::Due(command, left, _) => {
+            if 1 <= left {
+                return left <= command::operand_count(command);
+            }
+            false
+        }
+        Phase::Waiting(command, left, _, _) => {
+            if 1 <= left {
+                if left <= w {
+                    return command::is_waiting(command);
+                }
+                return false;
+            }
+            false
+        }
+        Phase::Low(_) => true,
+    }
+}
+
+pub fn is_in_range(board: Board, place: Place) -> bool
+    ensures { λ r. ⌜ r ≡ inRange board place ⌝ }
+{
+    let phase = place.phase;
+    if board.w <= 15 {
+        if is_phase(phase, board.w) {
+            if place.next <= 0x1FFFF {
+                if is_bstat(board.status.bstat) {
+                    return place.pointer <= 65536;
+                }
+                return false;
+            }
+            return false;
+        }
+        return false;
+    }
+    false
+}
