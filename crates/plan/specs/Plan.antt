@@ -1,0 +1,99 @@
+-- Packets (01): what a packet's input is taken for. A command word, an operand, or nothing where input is ignored.
+use Prim.Native.Nat.{ℕ, _+_, _*_, _-_, _%_}
+use mathlib.Core.Bool.{Bool, true, false, cond, _&&_, _||_, not}
+use lib.Dec.{eqb, leb}
+use Rattle.command.specs.declared.Command.{Command}
+use Rattle.command.specs.declared.Command.the-variants.{Unknown, Rdreg, Wdreg, Read, Write, Dump, Fill, Go, Nop, SyncPc, Rcreg, Wcreg, Rdmreg, Wdmreg}
+use Rattle.command.specs.Command.{decoded, operandWords, haltedOnly, waits}
+use Rattle.board.specs.declared.Operands.{Operands}
+use Rattle.board.specs.declared.Phase.{Phase}
+use Rattle.board.specs.declared.Phase.the-variants.{Rest, Due, Waiting, Low}
+use Rattle.board.specs.declared.Chain.{Chain}
+use Rattle.board.specs.declared.Chain.the-variants.{Off, Dumping, Filling}
+use Rattle.plan.specs.declared.Plan.{Plan}
+use Rattle.plan.specs.declared.Plan.the-variants.{Hold, Reject, Release, Work}
+
+-- "A packet has 17 bits: C (bit 16) and 16 data bits."
+abbrev pub carriesC : ℕ → Bool
+carriesC word = leb 0x10000 word
+
+abbrev pub isDumping : Chain → Bool
+isDumping Off = false
+isDumping Dumping = true
+isDumping Filling = false
+
+abbrev pub isFilling : Chain → Bool
+isFilling Off = false
+isFilling Dumping = false
+isFilling Filling = true
+
+-- "DUMP is legal only after READ or DUMP, FILL only after WRITE or FILL"; "Any other word .. is illegal"
+abbrev pub follows : Command → Chain → Bool
+follows Unknown chain = false
+follows (Rdreg n) chain = true
+follows (Wdreg n) chain = true
+follows (Read s) chain = true
+follows (Write s) chain = true
+follows (Dump s) chain = isDumping chain
+follows (Fill s) chain = isFilling chain
+follows Go chain = true
+follows Nop chain = true
+follows SyncPc chain = true
+follows Rcreg chain = true
+follows Wcreg chain = true
+follows Rdmreg chain = true
+follows (Wdmreg r) chain = true
+
+-- ".. or a "halted" command while running, is illegal"
+abbrev pub legal : Command → Bool → Chain → Bool
+legal c halted chain = (halted || not (haltedOnly c)) && follows c chain
+
+-- "C set, at rest or while an operand is due: illegal"; "Halted is judged when the command word is taken"
+abbrev pub lawful : ℕ → Bool → Chain → Bool
+lawful word halted chain = not (carriesC word) && legal (decoded word) halted chain
+
+-- "Addresses and longwords go upper word first."
+abbrev pub long : ℕ → ℕ → ℕ
+long upper low = upper * 65536 + low
+
+abbrev pub noOperands : Operands
+noOperands = record { oldest = 0; older = 0; newer = 0; newest = 0 }
+
+abbrev pub withOperand : Operands → ℕ → Operands
+withOperand t word = record { oldest = t .older; older = t .newer; newer = t .newest; newest = word }
+
+-- the address among a command's n operand words: the first two
+abbrev pub addressIn : ℕ → Operands → ℕ
+addressIn n t = cond (eqb n 4) (long (t .oldest) (t .older)) (cond (eqb n 3) (long (t .older) (t .newer)) (long (t .newer) (t .newest)))
+
+-- the data: the last word of one or three, the last two of two or four
+abbrev pub valueIn : ℕ → Operands → ℕ
+valueIn n t = cond (eqb n 1 || eqb n 3) (t .newest) (long (t .newer) (t .newest))
+
+-- "wait W packets, .. then the work is done"
+unfoldable pub ready : ℕ → Command → ℕ → ℕ → Plan
+ready left c address value = cond (eqb left 0) (Work c address value) (Hold (Waiting c left address value))
+
+-- "memory and control-register commands wait W packets"; "Others act when their last word is taken"
+abbrev pub waitsOf : ℕ → Command → ℕ
+waitsOf w c = cond (waits c) w 0
+
+-- with so many operand words still due
+unfoldable pub collected : ℕ → ℕ → Command → Operands → Plan
+collected w left c t =
+    cond (eqb left 0) (ready (waitsOf w c) c (addressIn (operandWords c) t) (valueIn (operandWords c) t)) (Hold (Due c left t))
+
+-- "Every packet accepted at rest is a command word taken"
+unfoldable pub begun : Bool → Chain → ℕ → ℕ → Plan
+begun halted chain w word = cond (lawful word halted chain) (collected w (operandWords (decoded word)) (decoded word) noOperands) Reject
+
+-- an operand is taken; "C set .. while an operand is due: illegal, the command is dropped"
+unfoldable pub continued : Command → ℕ → Operands → ℕ → ℕ → Plan
+continued c left t w word = cond (carriesC word) Reject (collected w (left - 1) c (withOperand t word))
+
+-- "each replying 0x10000 and ignoring its input"; "the packet that carries it out has its input ignored"
+abbrev pub planOf : Phase → Bool → Chain → ℕ → ℕ → Plan
+planOf Rest halted chain w word = begun halted chain w word
+planOf (Due c left t) halted chain w word = continued c left t w word
+planOf (Waiting c left address value) halted chain w word = ready (left - 1) c address value
+planOf (Low low) halted chain w word = Release low

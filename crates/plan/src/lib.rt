@@ -1,0 +1,194 @@
+// What a packet's input is taken for: a command word, an operand, or nothing (01, "Packets").
+ghost use mathlib.Core.Path.{_≡_};
+ghost use Prim.Native.Nat.{_-_};
+ghost use Rattle.plan.specs.Plan.{carriesC, isDumping, isFilling, follows, legal, lawful, long, withOperand, addressIn, valueIn, ready, waitsOf, collected, begun, continued, planOf};
+use board::Chain;
+use board::Operands;
+use board::Phase;
+use command::Command;
+
+pub enum Plan {
+    // Operands or waits are still to come.
+    Hold(Phase),
+    // Illegal, or dropped.
+    Reject,
+    // The upper result word leaves: the low one is next.
+    Release(u16),
+    // The command, its address and its data.
+    Work(Command, u32, u32),
+}
+
+fn is_dumping(chain: Chain) -> bool
+    ensures { λ r. ⌜ r ≡ isDumping chain ⌝ }
+{
+    match chain {
+        Chain::Off => false,
+        Chain::Dumping => true,
+        Chain::Filling => false,
+    }
+}
+
+fn is_filling(chain: Chain) -> bool
+    ensures { λ r. ⌜ r ≡ isFilling chain ⌝ }
+{
+    match chain {
+        Chain::Off => false,
+        Chain::Dumping => false,
+        Chain::Filling => true,
+    }
+}
+
+fn may_follow(command: Command, chain: Chain) -> bool
+    ensures { λ r. ⌜ r ≡ follows command chain ⌝ }
+{
+    match command {
+        Command::Unknown => false,
+        Command::Rdreg(_) => true,
+        Command::Wdreg(_) => true,
+        Command::Read(_) => true,
+        Command::Write(_) => true,
+        Command::Dump(_) => is_dumping(chain),
+        Command::Fill(_) => is_filling(chain),
+        Command::Go => true,
+        Command::Nop => true,
+        Command::SyncPc => true,
+        Command::Rcreg => true,
+        Command::Wcreg => true,
+        Command::Rdmreg => true,
+        Command::Wdmreg(_) => true,
+    }
+}
+
+fn is_legal(command: Command, halted: bool, chain: Chain) -> bool
+    ensures { λ r. ⌜ r ≡ legal command halted chain ⌝ }
+{
+    if halted {
+        return may_follow(command, chain);
+    }
+    if command::needs_halted(command) {
+        return false;
+    }
+    may_follow(command, chain)
+}
+
+fn join(upper: u16, low: u16) -> u32
+    ensures { λ r. ⌜ r ≡ long upper low ⌝ }
+{
+    (upper as u32) * 65536 + (low as u32)
+}
+
+fn take_operand(taken: Operands, word: u16) -> Operands
+    ensures { λ r. ⌜ r ≡ withOperand taken word ⌝ }
+{
+    Operands {
+        oldest: taken.older,
+        older: taken.newer,
+        newer: taken.newest,
+        newest: word,
+    }
+}
+
+fn address_in(n: u32, taken: Operands) -> u32
+    ensures { λ r. ⌜ r ≡ addressIn n taken ⌝ }
+{
+    if n == 4 {
+        return join(taken.oldest, taken.older);
+    }
+    if n == 3 {
+        return join(taken.older, taken.newer);
+    }
+    join(taken.newer, taken.newest)
+}
+
+fn value_in(n: u32, taken: Operands) -> u32
+    ensures { λ r. ⌜ r ≡ valueIn n taken ⌝ }
+{
+    if n == 1 {
+        return taken.newest as u32;
+    }
+    if n == 3 {
+        return taken.newest as u32;
+    }
+    join(taken.newer, taken.newest)
+}
+
+fn wait_or_work(left: u32, command: Command, address: u32, value: u32) -> Plan
+    ensures { λ r. ⌜ r ≡ ready left command address value ⌝ }
+{
+    if left == 0 {
+        return Plan::Work(command, address, value);
+    }
+    Plan::Hold(Phase::Waiting(command, left, address, value))
+}
+
+fn waits_of(w: u32, command: Command) -> u32
+    ensures { λ r. ⌜ r ≡ waitsOf w command ⌝ }
+{
+    if command::is_waiting(command) {
+        return w;
+    }
+    0
+}
+
+fn collect(w: u32, left: u32, command: Command, taken: Operands) -> Plan
+    ensures { λ r. ⌜ r ≡ collected w left command taken ⌝ }
+{
+    if left == 0 {
+        let n = command::operand_count(command);
+        let address = address_in(n, taken);
+        let value = value_in(n, taken);
+        return wait_or_work(waits_of(w, command), command, address, value);
+    }
+    Plan::Hold(Phase::Due(command, left, taken))
+}
+
+fn begin(halted: bool, chain: Chain, w: u32, word: u32) -> Plan
+    ensures { λ r. ⌜ r ≡ begun halted chain w word ⌝ }
+{
+    if 0x10000 <= word {
+        return Plan::Reject;
+    }
+    let command = command::decode(word);
+    if is_legal(command, halted, chain) {
+        let none = Operands {
+            oldest: 0,
+            older: 0,
+            newer: 0,
+            newest: 0,
+        };
+        return collect(w, command::operand_count(command), command, none);
+    }
+    Plan::Reject
+}
+
+// One less, and none of none.
+fn less_one(left: u32) -> u32
+    ensures { λ r. ⌜ r ≡ left - 1 ⌝ }
+{
+    if left == 0 {
+        return 0;
+    }
+    left - 1
+}
+
+fn go_on(command: Command, left: u32, taken: Operands, w: u32, word: u32) -> Plan
+    ensures { λ r. ⌜ r ≡ continued command left taken w word ⌝ }
+{
+    if 0x10000 <= word {
+        return Plan::Reject;
+    }
+    collect(w, less_one(left), command, take_operand(taken, word as u16))
+}
+
+pub fn make_plan(phase: Phase, halted: bool, chain: Chain, w: u32, word: u32) -> Plan
+    ensures { λ r. ⌜ r ≡ planOf phase halted chain w word ⌝ }
+{
+    match phase {
+        Phase::Rest => begin(halted, chain, w, word),
+        Phase::Due(command, left, taken) => go_on(command, left, taken, w, word),
+        Phase::Waiting(command, left, address, value) => {
+            wait_or_work(less_one(left), command, address, value)
+        }
+        Phase::Low(low) => Plan::Release(low),
+    }
+}

@@ -1,0 +1,183 @@
+// One packet, and a run of them: the reply from the state before, then the input (01, "Packets").
+ghost use mathlib.Core.Path.{_≡_};
+ghost use Rattle.port.specs.Packets.{replyIn, chainDuring, chainIn, rejected, holding, released, placeBy, boardBy, memoryBy, replyNow, placeNext, boardNext, memoryNext, packetVerdict};
+ghost use Rattle.port.specs.Promise.{PacketMeets};
+use board::Board;
+use board::Chain;
+use board::Phase;
+use board::Place;
+use command::Command;
+use grounds::Ground;
+use grounds::Verdict;
+use plan::Plan;
+
+pub enum Outcome {
+    Reply(u32),
+    Refusing(Ground),
+}
+
+pub struct Answer {
+    pub outcome: Outcome,
+    pub board: Board,
+    pub place: Place,
+}
+
+// The board and the place after an accepted packet.
+pub struct Next {
+    pub board: Board,
+    pub place: Place,
+}
+
+fn reply_of(place: Place) -> u32
+    ensures { λ r. ⌜ r ≡ replyNow place ⌝ }
+{
+    let phase = place.phase;
+    match phase {
+        Phase::Rest => place.next,
+        Phase::Due(_, _, _) => 0x10000,
+        Phase::Waiting(_, _, _, _) => 0x10000,
+        Phase::Low(_) => place.next,
+    }
+}
+
+fn chain_during(command: Command, chain: Chain) -> Chain
+    ensures { λ r. ⌜ r ≡ chainDuring command chain ⌝ }
+{
+    match command {
+        Command::Unknown => Chain::Off,
+        Command::Rdreg(_) => Chain::Off,
+        Command::Wdreg(_) => Chain::Off,
+        Command::Read(_) => Chain::Off,
+        Command::Write(_) => Chain::Off,
+        Command::Dump(_) => chain,
+        Command::Fill(_) => chain,
+        Command::Go => Chain::Off,
+        Command::Nop => chain,
+        Command::SyncPc => Chain::Off,
+        Command::Rcreg => Chain::Off,
+        Command::Wcreg => Chain::Off,
+        Command::Rdmreg => Chain::Off,
+        Command::Wdmreg(_) => Chain::Off,
+    }
+}
+
+fn chain_in(phase: Phase, chain: Chain) -> Chain
+    ensures { λ r. ⌜ r ≡ chainIn phase chain ⌝ }
+{
+    match phase {
+        Phase::Rest => chain,
+        Phase::Due(command, _, _) => chain_during(command, chain),
+        Phase::Waiting(command, _, _, _) => chain_during(command, chain),
+        Phase::Low(_) => chain,
+    }
+}
+
+fn hold(place: Place, phase: Phase) -> Place
+    ensures { λ r. ⌜ r ≡ holding place phase ⌝ }
+{
+    let chain = place.chain;
+    Place {
+        phase: phase,
+        chain: chain_in(phase, chain),
+        pointer: place.pointer,
+        next: 0x10000,
+    }
+}
+
+fn reject(place: Place) -> Place
+    ensures { λ r. ⌜ r ≡ rejected place ⌝ }
+{
+    Place {
+        phase: Phase::Rest,
+        chain: Chain::Off,
+        pointer: place.pointer,
+        next: 0x1FFFF,
+    }
+}
+
+fn release(place: Place, low: u16) -> Place
+    ensures { λ r. ⌜ r ≡ released place low ⌝ }
+{
+    let chain = place.chain;
+    Place {
+        phase: Phase::Rest,
+        chain: chain,
+        pointer: place.pointer,
+        next: low as u32,
+    }
+}
+
+fn carry_out(board: Board, place: Place, memory: &mut [u8], plan: Plan) -> Next
+    ensures { λ r. ⌜ (r .board ≡ boardBy plan board) × (r .place ≡ placeBy plan board place (now (memory .entry))) × (now (memory .exit) ≡ memoryBy plan place (now (memory .entry))) ⌝ }
+{
+    match plan {
+        Plan::Hold(phase) => Next {
+            board: board,
+            place: hold(place, phase),
+        },
+        Plan::Reject => Next {
+            board: board,
+            place: reject(place),
+        },
+        Plan::Release(low) => Next {
+            board: board,
+            place: release(place, low),
+        },
+        Plan::Work(command, address, value) => {
+            let access = work::make_access(memory, command, place.pointer, address, value);
+            let ending = work::find_ending(command, board, address, access);
+            let settled = work::settle(command, place, access, ending);
+            Next {
+                board: registers::board_after(command, board, address, value),
+                place: settled,
+            }
+        }
+    }
+}
+
+fn take_word(board: Board, place: Place, memory: &mut [u8], word: u32) -> Next
+    ensures { λ r. ⌜ (r .board ≡ boardNext board place word) × (r .place ≡ placeNext board place (now (memory .entry)) word) × (now (memory .exit) ≡ memoryNext board place (now (memory .entry)) word) ⌝ }
+{
+    let phase = place.phase;
+    let chain = place.chain;
+    let plan = plan::make_plan(phase, board.status.halted, chain, board.w, word);
+    carry_out(board, place, memory, plan)
+}
+
+fn judge_packet(board: Board, place: Place, memory: &[u8], word: u32) -> Verdict
+    ensures { λ r. ⌜ r ≡ packetVerdict board place (now (memory .entry)) word ⌝ }
+{
+    if board::is_in_range(board, place) {
+        if memory.len() <= 65536 {
+            if word <= 0x1FFFF {
+                return Verdict::Accepted;
+            }
+            return Verdict::Refused(Ground::WordTooLarge);
+        }
+        return Verdict::Refused(Ground::MemoryTooLong);
+    }
+    Verdict::Refused(Ground::StateOutOfRange)
+}
+
+pub fn take_packet(board: Board, place: Place, memory: &mut [u8], word: u32) -> Answer
+    ensures { λ r. ⌜ PacketMeets board place (now (memory .entry)) word r (now (memory .exit)) ⌝ }
+{
+    match judge_packet(board, place, memory, word) {
+        Verdict::Accepted => {
+            let reply = reply_of(place);
+            let next = take_word(board, place, memory, word);
+            let board_next = next.board;
+            let place_next = next.place;
+            Answer {
+                outcome: Outcome::Reply(reply),
+                board: board_next,
+                place: place_next,
+            }
+        }
+        Verdict::Refused(ground) => Answer {
+            outcome: Outcome::Refusing(ground),
+            board: board,
+            place: place,
+        },
+    }
+}

@@ -1,0 +1,96 @@
+-- Packets (01): what a command's work ends in, and what it leaves at the place.
+use Prim.Native.Nat.{ℕ, _/_, _%_}
+use lib.ListN.{getD}
+use Rattle.memory.specs.declared.Size.the-variants.{Byte, Word, Long}
+use Rattle.memory.specs.declared.Fetch.{Fetch}
+use Rattle.memory.specs.declared.Fetch.the-variants.{Value, BusError}
+use Rattle.command.specs.declared.Command.{Command}
+use Rattle.command.specs.declared.Command.the-variants.{Unknown, Rdreg, Wdreg, Read, Write, Dump, Fill, Go, Nop, SyncPc, Rcreg, Wcreg, Rdmreg, Wdmreg}
+use Rattle.board.specs.declared.Board.{Board}
+use Rattle.board.specs.declared.Phase.{Phase}
+use Rattle.board.specs.declared.Phase.the-variants.{Rest, Low}
+use Rattle.board.specs.declared.Chain.{Chain}
+use Rattle.board.specs.declared.Chain.the-variants.{Off, Dumping, Filling}
+use Rattle.board.specs.declared.Place.{Place}
+use Rattle.registers.specs.Csr.{csrValue}
+use Rattle.registers.specs.Registers.{controlFetched}
+use Rattle.work.specs.declared.Access.{Access}
+use Rattle.work.specs.declared.Access.the-variants.{NoAccess, Fetched, Stored, Missing}
+use Rattle.work.specs.declared.Ending.{Ending}
+use Rattle.work.specs.declared.Ending.the-variants.{Complete, Failed, OneWord, TwoWords}
+use Rattle.work.specs.Access.{pointerAfter}
+
+abbrev pub accessEnding : Access → Ending
+accessEnding NoAccess = Complete
+accessEnding (Fetched Byte v past) = OneWord v
+accessEnding (Fetched Word v past) = OneWord v
+accessEnding (Fetched Long v past) = TwoWords v
+accessEnding (Stored past) = Complete
+accessEnding Missing = Failed
+
+abbrev pub controlEnding : Fetch → Ending
+controlEnding (Value v) = TwoWords v
+controlEnding BusError = Failed
+
+abbrev pub controlWriteEnding : Fetch → Ending
+controlWriteEnding (Value v) = Complete
+controlWriteEnding BusError = Failed
+
+-- the column "Result words", or a bus error
+abbrev pub endingOf : Command → Board → ℕ → Access → Ending
+endingOf Unknown b address access = Complete
+endingOf (Rdreg n) b address access = TwoWords (getD (b .registers .general) (n % 16) 0)
+endingOf (Wdreg n) b address access = Complete
+endingOf (Read s) b address access = accessEnding access
+endingOf (Write s) b address access = accessEnding access
+endingOf (Dump s) b address access = accessEnding access
+endingOf (Fill s) b address access = accessEnding access
+endingOf Go b address access = Complete
+endingOf Nop b address access = Complete
+endingOf SyncPc b address access = Complete
+endingOf Rcreg b address access = controlEnding (controlFetched b address)
+endingOf Wcreg b address access = controlWriteEnding (controlFetched b address)
+endingOf Rdmreg b address access = TwoWords (csrValue b)
+endingOf (Wdmreg r) b address access = Complete
+
+-- "Of two result words the upper comes first"; "S=0 with data, or 0x0FFFF complete; .. 0x10001 bus error"
+abbrev pub firstReply : Ending → ℕ
+firstReply Complete = 0x0FFFF
+firstReply Failed = 0x10001
+firstReply (OneWord v) = v
+firstReply (TwoWords v) = v / 65536
+
+-- "Otherwise the port rests once the work is done"
+abbrev pub phaseAfter : Ending → Phase
+phaseAfter Complete = Rest
+phaseAfter Failed = Rest
+phaseAfter (OneWord v) = Rest
+phaseAfter (TwoWords v) = Low (v % 65536)
+
+-- "DUMP is legal only after READ or DUMP, FILL only after WRITE or FILL; NOPs may stand between."
+abbrev pub chainBy : Command → Chain → Chain
+chainBy Unknown chain = Off
+chainBy (Rdreg n) chain = Off
+chainBy (Wdreg n) chain = Off
+chainBy (Read s) chain = Dumping
+chainBy (Write s) chain = Filling
+chainBy (Dump s) chain = Dumping
+chainBy (Fill s) chain = Filling
+chainBy Go chain = Off
+chainBy Nop chain = chain
+chainBy SyncPc chain = Off
+chainBy Rcreg chain = Off
+chainBy Wcreg chain = Off
+chainBy Rdmreg chain = Off
+chainBy (Wdmreg r) chain = Off
+
+-- "Any other .. command word, a bus error .. ends the chain"
+abbrev pub chainAfter : Ending → Command → Chain → Chain
+chainAfter Complete c chain = chainBy c chain
+chainAfter Failed c chain = Off
+chainAfter (OneWord v) c chain = chainBy c chain
+chainAfter (TwoWords v) c chain = chainBy c chain
+
+abbrev pub placeAfter : Command → Place → Access → Ending → Place
+placeAfter c p access ending =
+    record { phase = phaseAfter ending; chain = chainAfter ending c (p .chain); pointer = pointerAfter access (p .pointer); next = firstReply ending }

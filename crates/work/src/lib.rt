@@ -1,0 +1,216 @@
+// What a command does once its last word is in and its waits are over (01, "Packets").
+ghost use mathlib.Core.Path.{_≡_};
+ghost use Rattle.work.specs.Access.{past, fetching, storing, accessOf, memoryAfter, pointerAfter};
+ghost use Rattle.work.specs.Work.{accessEnding, controlEnding, controlWriteEnding, endingOf, firstReply, phaseAfter, chainBy, chainAfter, placeAfter};
+ghost use Rattle.memory.specs.Memory.{stored};
+use board::Board;
+use board::Chain;
+use board::Phase;
+use board::Place;
+use command::Command;
+use memory::Fetch;
+use memory::Size;
+
+// What a command's access to memory found.
+pub enum Access {
+    NoAccess,
+    // The size, the value, and the pointer past it.
+    Fetched(Size, u32, u32),
+    // The pointer past it.
+    Stored(u32),
+    // Some byte of it lies beyond memory.
+    Missing,
+}
+
+// What a command's work ends in.
+pub enum Ending {
+    Complete,
+    Failed,
+    OneWord(u32),
+    TwoWords(u32),
+}
+
+fn past_access(size: Size, address: u32) -> u32
+    ensures { λ r. ⌜ r ≡ past size address ⌝ }
+{
+    let at = memory::align(size, address) as u64;
+    let n = memory::byte_count(size) as u64;
+    ((at + n) % 0x100000000) as u32
+}
+
+fn fetch_access(memory: &[u8], size: Size, address: u32) -> Access
+    ensures { λ r. ⌜ r ≡ fetching (now (memory .entry)) size address ⌝ }
+{
+    let end = past_access(size, address);
+    match memory::fetch_at(memory, size, address) {
+        Fetch::Value(value) => Access::Fetched(size, value, end),
+        Fetch::BusError => Access::Missing,
+    }
+}
+
+fn store_access(memory: &mut [u8], size: Size, address: u32, value: u32) -> Access
+    ensures { λ r. ⌜ (r ≡ storing (now (memory .entry)) size address) × (now (memory .exit) ≡ stored (now (memory .entry)) size address value) ⌝ }
+{
+    if memory::store_at(memory, size, address, value) {
+        return Access::Stored(past_access(size, address));
+    }
+    Access::Missing
+}
+
+pub fn make_access(
+    memory: &mut [u8],
+    command: Command,
+    pointer: u32,
+    address: u32,
+    value: u32,
+) -> Access
+    ensures { λ r. ⌜ (r ≡ accessOf command (now (memory .entry)) pointer address) × (now (memory .exit) ≡ memoryAfter command (now (memory .entry)) pointer address value) ⌝ }
+{
+    match command {
+        Command::Read(size) => fetch_access(memory, size, address),
+        Command::Write(size) => store_access(memory, size, address, value),
+        Command::Dump(size) => fetch_access(memory, size, pointer),
+        Command::Fill(size) => store_access(memory, size, pointer, value),
+        Command::Unknown => Access::NoAccess,
+        Command::Rdreg(_) => Access::NoAccess,
+        Command::Wdreg(_) => Access::NoAccess,
+        Command::Go => Access::NoAccess,
+        Command::Nop => Access::NoAccess,
+        Command::SyncPc => Access::NoAccess,
+        Command::Rcreg => Access::NoAccess,
+        Command::Wcreg => Access::NoAccess,
+        Command::Rdmreg => Access::NoAccess,
+        Command::Wdmreg(_) => Access::NoAccess,
+    }
+}
+
+fn end_access(access: Access) -> Ending
+    ensures { λ r. ⌜ r ≡ accessEnding access ⌝ }
+{
+    match access {
+        Access::NoAccess => Ending::Complete,
+        Access::Fetched(size, value, _) => match size {
+            Size::Byte => Ending::OneWord(value),
+            Size::Word => Ending::OneWord(value),
+            Size::Long => Ending::TwoWords(value),
+        },
+        Access::Stored(_) => Ending::Complete,
+        Access::Missing => Ending::Failed,
+    }
+}
+
+fn end_control(found: Fetch) -> Ending
+    ensures { λ r. ⌜ r ≡ controlEnding found ⌝ }
+{
+    match found {
+        Fetch::Value(value) => Ending::TwoWords(value),
+        Fetch::BusError => Ending::Failed,
+    }
+}
+
+fn end_control_write(found: Fetch) -> Ending
+    ensures { λ r. ⌜ r ≡ controlWriteEnding found ⌝ }
+{
+    match found {
+        Fetch::Value(_) => Ending::Complete,
+        Fetch::BusError => Ending::Failed,
+    }
+}
+
+pub fn find_ending(command: Command, board: Board, address: u32, access: Access) -> Ending
+    ensures { λ r. ⌜ r ≡ endingOf command board address access ⌝ }
+{
+    match command {
+        Command::Unknown => Ending::Complete,
+        Command::Rdreg(n) => Ending::TwoWords(registers::general_of(board, n)),
+        Command::Wdreg(_) => Ending::Complete,
+        Command::Read(_) => end_access(access),
+        Command::Write(_) => end_access(access),
+        Command::Dump(_) => end_access(access),
+        Command::Fill(_) => end_access(access),
+        Command::Go => Ending::Complete,
+        Command::Nop => Ending::Complete,
+        Command::SyncPc => Ending::Complete,
+        Command::Rcreg => end_control(registers::fetch_control(board, address)),
+        Command::Wcreg => end_control_write(registers::fetch_control(board, address)),
+        Command::Rdmreg => Ending::TwoWords(registers::csr_of(board)),
+        Command::Wdmreg(_) => Ending::Complete,
+    }
+}
+
+fn first_reply(ending: Ending) -> u32
+    ensures { λ r. ⌜ r ≡ firstReply ending ⌝ }
+{
+    match ending {
+        Ending::Complete => 0x0FFFF,
+        Ending::Failed => 0x10001,
+        Ending::OneWord(value) => value,
+        Ending::TwoWords(value) => value / 65536,
+    }
+}
+
+fn phase_after(ending: Ending) -> Phase
+    ensures { λ r. ⌜ r ≡ phaseAfter ending ⌝ }
+{
+    match ending {
+        Ending::Complete => Phase::Rest,
+        Ending::Failed => Phase::Rest,
+        Ending::OneWord(_) => Phase::Rest,
+        Ending::TwoWords(value) => Phase::Low((value % 65536) as u16),
+    }
+}
+
+fn chain_by(command: Command, chain: Chain) -> Chain
+    ensures { λ r. ⌜ r ≡ chainBy command chain ⌝ }
+{
+    match command {
+        Command::Unknown => Chain::Off,
+        Command::Rdreg(_) => Chain::Off,
+        Command::Wdreg(_) => Chain::Off,
+        Command::Read(_) => Chain::Dumping,
+        Command::Write(_) => Chain::Filling,
+        Command::Dump(_) => Chain::Dumping,
+        Command::Fill(_) => Chain::Filling,
+        Command::Go => Chain::Off,
+        Command::Nop => chain,
+        Command::SyncPc => Chain::Off,
+        Command::Rcreg => Chain::Off,
+        Command::Wcreg => Chain::Off,
+        Command::Rdmreg => Chain::Off,
+        Command::Wdmreg(_) => Chain::Off,
+    }
+}
+
+fn chain_after(ending: Ending, command: Command, chain: Chain) -> Chain
+    ensures { λ r. ⌜ r ≡ chainAfter ending command chain ⌝ }
+{
+    match ending {
+        Ending::Complete => chain_by(command, chain),
+        Ending::Failed => Chain::Off,
+        Ending::OneWord(_) => chain_by(command, chain),
+        Ending::TwoWords(_) => chain_by(command, chain),
+    }
+}
+
+fn pointer_after(access: Access, pointer: u32) -> u32
+    ensures { λ r. ⌜ r ≡ pointerAfter access pointer ⌝ }
+{
+    match access {
+        Access::NoAccess => pointer,
+        Access::Fetched(_, _, end) => end,
+        Access::Stored(end) => end,
+        Access::Missing => pointer,
+    }
+}
+
+pub fn settle(command: Command, place: Place, access: Access, ending: Ending) -> Place
+    ensures { λ r. ⌜ r ≡ placeAfter command place access ending ⌝ }
+{
+    let chain = place.chain;
+    Place {
+        phase: phase_after(ending),
+        chain: chain_after(ending, command, chain),
+        pointer: pointer_after(access, place.pointer),
+        next: first_reply(ending),
+    }
+}
