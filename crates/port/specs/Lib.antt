@@ -1,2 +1,4 @@
 pub mod Packets
 pub mod Promise
+pub mod Run
+pub mod RunLaws
