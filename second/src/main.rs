@@ -1,0 +1,44 @@
+//! `second NAME ..`: the desk's programs, their stored lines, and the comparison with other programs.
+
+use second::desk;
+use std::io::{self, BufWriter};
+use std::process::ExitCode;
+
+const USAGE: &str = "usage: second stand_in | pod | talk | trace_list
+       second gen DIR
+       second expect DIR
+       second compare [--all] BIN_DIR VECTORS_DIR
+       second random BIN_DIR SEED COUNT
+       second soak BIN_DIR SECONDS";
+
+fn main() -> ExitCode {
+    let arguments: Vec<String> = std::env::args().skip(1).collect();
+    let arguments: Vec<&str> = arguments.iter().map(String::as_str).collect();
+    let done = match arguments[..] {
+        ["trace_list"] => list(),
+        [name] if desk::LINE_PROGRAMS.contains(&name) => converse(name),
+        _ => Err(USAGE.to_string()),
+    };
+    match done {
+        Ok(true) => ExitCode::SUCCESS,
+        Ok(false) => ExitCode::FAILURE,
+        Err(message) => {
+            eprintln!("{message}");
+            ExitCode::from(2)
+        }
+    }
+}
+
+fn converse(name: &str) -> Result<bool, String> {
+    let mut program = desk::line_program(name).expect("a line program's name");
+    let mut output = BufWriter::new(io::stdout().lock());
+    desk::converse(program.as_mut(), &mut io::stdin().lock(), &mut output)
+        .map_err(|error| format!("second {name}: {error}"))?;
+    Ok(true)
+}
+
+fn list() -> Result<bool, String> {
+    let mut output = BufWriter::new(io::stdout().lock());
+    desk::trace_list(&mut io::stdin().lock(), &mut output).map_err(|error| format!("second trace_list: {error}"))?;
+    Ok(true)
+}
