@@ -4,12 +4,15 @@
 //! A benchmark uses [`board::Board::run`] and [`trace::list_trace`].
 
 pub mod board;
+pub mod check;
 pub mod command;
 pub mod desk;
 pub mod events;
 pub mod line;
 pub mod packets;
 pub mod pod;
+pub mod random;
 pub mod refusal;
+pub mod script;
 pub mod talk;
 pub mod trace;

@@ -7,6 +7,7 @@ use crate::pod::{Outcome, Request};
 use std::fmt::Write;
 
 /// Builds requests and reads replies; it remembers nothing.
+#[derive(Default)]
 pub struct Pod;
 
 impl Program for Pod {

@@ -1,0 +1,356 @@
+//! Where random numbers are aimed: at the edges of memory, at the breakpoint registers, at legal command words.
+
+use super::Rng;
+use crate::board::{Board, Chain};
+use crate::command::{Size, CONTROL_REGISTERS};
+use crate::desk::Bench;
+
+const MEMORY_LENGTHS: [u32; 16] = [
+    0, 1, 2, 3, 4, 5, 15, 16, 17, 64, 65_535, 65_536, 65_536, 65_537, 0x1000F, 0x10010,
+];
+
+const DEBUG_REGISTERS: [u32; 10] = [0x00, 0x05, 0x06, 0x07, 0x08, 0x09, 0x0C, 0x0D, 0x0E, 0x0F];
+
+/// A number as someone might type it.
+pub fn hex(rng: &mut Rng, value: u32) -> String {
+    let digits = if rng.once_in(12) {
+        format!("{value:x}")
+    } else {
+        format!("{value:X}")
+    };
+    if rng.once_in(12) {
+        "0".repeat(rng.between(1, 12) as usize) + &digits
+    } else {
+        digits
+    }
+}
+
+pub fn memory_length(rng: &mut Rng) -> u32 {
+    match rng.below(10) {
+        0..=4 => rng.pick(&MEMORY_LENGTHS),
+        5 => rng.below(0x10011),
+        _ => rng.between(1, 80),
+    }
+}
+
+/// An address: near 0, near the end of memory, near 65,536, near 2^32, inside, anywhere.
+pub fn address(rng: &mut Rng, memory_length: u32) -> u32 {
+    match rng.below(16) {
+        0..=2 => rng.below(8),
+        3..=6 => memory_length.wrapping_add(rng.below(10)).wrapping_sub(7),
+        7 => 65_536u32.wrapping_add(rng.below(8)).wrapping_sub(5),
+        8 => 0u32.wrapping_sub(rng.between(1, 8)),
+        9 => rng.word(),
+        10 => rng.pick(&[0x0001_0000, 0x8000_0000, 0x7FFF_FFFC, 0x0100_0000]) + rng.below(8),
+        _ => rng.below(memory_length.max(1)),
+    }
+}
+
+/// A 32-bit datum.
+pub fn datum(rng: &mut Rng) -> u32 {
+    match rng.below(8) {
+        0 => rng.pick(&[
+            0,
+            1,
+            0xFF,
+            0x100,
+            0xFFFF,
+            0x1_0000,
+            0x7FFF_FFFF,
+            0x8000_0000,
+            0xFFFF_FFFF,
+        ]),
+        1 => rng.sparse(),
+        2 => u32::from(legal_word(rng)) << 16 | u32::from(legal_word(rng)),
+        _ => rng.word(),
+    }
+}
+
+pub fn control_register(rng: &mut Rng) -> u32 {
+    match rng.below(8) {
+        0 => rng.below(0x1000),
+        1 => u32::from(rng.pick(&CONTROL_REGISTERS)) ^ (1 << rng.below(12)),
+        _ => u32::from(rng.pick(&CONTROL_REGISTERS)),
+    }
+}
+
+pub fn size(rng: &mut Rng) -> Size {
+    rng.pick(&Size::ALL)
+}
+
+/// A command word of the table, legal in some state.
+pub fn legal_word(rng: &mut Rng) -> u16 {
+    let kind = rng.pick(&[0x1800, 0x1900, 0x1C00, 0x1D00]);
+    match rng.below(16) {
+        0..=7 => kind + size(rng).field(),
+        8 => 0x2080 + rng.below(16) as u16,
+        9 => 0x2180 + rng.below(16) as u16,
+        10 => 0x2880,
+        11 => 0x2980,
+        12 => 0x2C80 + rng.pick(&DEBUG_REGISTERS) as u16,
+        13 => 0x2D80,
+        14 => 0x0C00,
+        _ => rng.below(2) as u16,
+    }
+}
+
+/// A word that is illegal in most states or all.
+pub fn odd_word(rng: &mut Rng) -> u16 {
+    match rng.below(6) {
+        0 => 0x2C80 + rng.below(32) as u16,
+        1 => 0x2D80 + rng.below(32) as u16,
+        2 => legal_word(rng) ^ (1 << rng.below(16)),
+        3 => rng.pick(&[0x1800, 0x1900, 0x1C00, 0x1D00]) + 0xC0,
+        4 => legal_word(rng).wrapping_add(1),
+        _ => rng.word() as u16,
+    }
+}
+
+fn long(words: &mut Vec<u32>, value: u32) {
+    words.push(value >> 16);
+    words.push(value & 0xFFFF);
+}
+
+fn data(rng: &mut Rng, words: &mut Vec<u32>, size: Size) {
+    let value = datum(rng);
+    match size {
+        Size::Byte | Size::Word => words.push(value & 0xFFFF),
+        Size::Long => long(words, value),
+    }
+}
+
+/// A command word and all of its operands, aimed by what the bench holds.
+pub fn command(rng: &mut Rng, bench: &Bench) -> Vec<u32> {
+    let size = size(rng);
+    let field = u32::from(size.field());
+    let length = bench.memory.len() as u32;
+    let chained = rng.percent(60);
+    let mut words = Vec::new();
+    match (bench.board.chain, rng.below(40)) {
+        (Chain::Dump, _) if chained => words.push(0x1D00 + field),
+        (Chain::Fill, _) if chained => {
+            words.push(0x1C00 + field);
+            data(rng, &mut words, size);
+        }
+        (_, 0..=7) => {
+            words.push(0x1900 + field);
+            long(&mut words, address(rng, length));
+        }
+        (_, 8..=14) => {
+            words.push(0x1800 + field);
+            long(&mut words, address(rng, length));
+            data(rng, &mut words, size);
+        }
+        (_, 15) => words.push(0x1D00 + field),
+        (_, 16) => {
+            words.push(0x1C00 + field);
+            data(rng, &mut words, size);
+        }
+        (_, 17..=19) => {
+            words.push(0x2080 + rng.below(16));
+            long(&mut words, datum(rng));
+        }
+        (_, 20..=21) => words.push(0x2180 + rng.below(16)),
+        (_, 22..=24) => {
+            words.push(0x2880);
+            control_operand(rng, &mut words);
+            long(&mut words, datum(rng));
+        }
+        (_, 25..=26) => {
+            words.push(0x2980);
+            control_operand(rng, &mut words);
+        }
+        (_, 27..=29) => words.push(0x2D80),
+        (_, 30..=32) => words = debug_write(rng),
+        (_, 33..=34) => words.push(0x0000),
+        (_, 35) => words.push(0x0001),
+        (_, 36) => words.push(0x0C00),
+        (_, 37..=38) => words.push(u32::from(odd_word(rng))),
+        _ => words.push(u32::from(legal_word(rng))),
+    }
+    words
+}
+
+fn control_operand(rng: &mut Rng, words: &mut Vec<u32>) {
+    words.push(if rng.once_in(16) { rng.below(0x1_0000) } else { 0 });
+    words.push(if rng.once_in(16) {
+        rng.below(0x1_0000)
+    } else {
+        control_register(rng)
+    });
+}
+
+/// WDMREG with a value that its register may well be given.
+pub fn debug_write(rng: &mut Rng) -> Vec<u32> {
+    let n = rng.pick(&DEBUG_REGISTERS);
+    debug_write_to(rng, n)
+}
+
+fn debug_write_to(rng: &mut Rng, n: u32) -> Vec<u32> {
+    let value = debug_value(rng, n);
+    vec![0x2C80 + n, value >> 16, value & 0xFFFF]
+}
+
+/// A value for a debug register. Few different ones, so that comparisons often agree.
+pub fn debug_value(rng: &mut Rng, n: u32) -> u32 {
+    match n {
+        0x00 => match rng.below(6) {
+            0 => 0x10,
+            1 => 0x4_0000,
+            2 => 0x4_0010,
+            3 => rng.word(),
+            _ => 0,
+        },
+        0x05 => rng.below(0x200),
+        0x06 => attribute_trigger(rng),
+        0x07 => trigger(rng),
+        0x08 => match rng.below(5) {
+            0 => rng.word(),
+            1 => 0xFFFF_FFFE,
+            2 => 0x1001,
+            _ => 0x1000,
+        },
+        0x09 => match rng.below(6) {
+            0 => 0xF,
+            1 => 0xFFFF_FFFF,
+            2 => 1,
+            3 => rng.sparse(),
+            _ => 0,
+        },
+        0x0C => match rng.below(6) {
+            0 => rng.word(),
+            1 => 0xFFFF_FFFF,
+            2 => 0x1FFF,
+            _ => 0x2000 + rng.below(32),
+        },
+        0x0D => match rng.below(6) {
+            0 => rng.word(),
+            1 => 0,
+            _ => 0x2000 + rng.below(16),
+        },
+        0x0E => match rng.below(4) {
+            0 => rng.word(),
+            1 => rng.pick(&[0xFF, 0xFF00, 0xFF_0000, 0xFF00_0000, 0xFFFF, 0xFFFF_0000]) & rng.word(),
+            2 => 0,
+            _ => 0x1122_3344,
+        },
+        0x0F => match rng.below(5) {
+            0 => 0xFFFF_FFFF,
+            1 => rng.pick(&[0xFF, 0xFF00, 0xFF_0000, 0xFF00_0000, 0xFFFF, 0xFFFF_0000]),
+            2 => rng.sparse(),
+            _ => 0,
+        },
+        _ => rng.word(),
+    }
+}
+
+fn attribute_trigger(rng: &mut Rng) -> u32 {
+    let mask = match rng.below(5) {
+        0 => 0xFF,
+        1 => 0x60,
+        2 => rng.below(0x100),
+        _ => 0,
+    };
+    let size = rng.pick(&[0x00, 0x20, 0x40]);
+    let rest = rng.pick(&[0x05, 0x85, 0x01, 0x1F, 0x9A]);
+    let upper = if rng.once_in(8) { rng.word() << 16 } else { 0 };
+    upper | mask << 8 | size | rest
+}
+
+/// One level's bits of TDR.
+fn level(rng: &mut Rng, enabled: u32) -> u32 {
+    let mut bits = 0;
+    if rng.percent(enabled) {
+        bits |= 1 << 13;
+    }
+    if rng.percent(60) {
+        bits |= 1 << 1;
+    }
+    if rng.percent(25) {
+        bits |= 1;
+    }
+    if rng.percent(60) {
+        bits |= rng.between(1, 7) << 2;
+    }
+    if rng.percent(50) {
+        bits |= 1 << rng.between(6, 12);
+    }
+    if rng.percent(20) {
+        bits |= rng.below(0x80) << 6;
+    }
+    if rng.percent(30) {
+        bits |= 1 << 5;
+    }
+    bits
+}
+
+fn trigger(rng: &mut Rng) -> u32 {
+    if rng.once_in(20) {
+        return rng.word();
+    }
+    level(rng, 90) | level(rng, 50) << 16 | rng.below(4) << 14 | rng.below(4) << 30
+}
+
+/// WDMREG commands that set up the breakpoint registers, TDR last.
+pub fn breakpoint_setup(rng: &mut Rng) -> Vec<Vec<u32>> {
+    let mut commands = Vec::new();
+    for n in [0x06, 0x08, 0x09, 0x0C, 0x0D, 0x0E, 0x0F, 0x00] {
+        if rng.percent(40) {
+            commands.push(debug_write_to(rng, n));
+        }
+    }
+    commands.push(debug_write_to(rng, 0x07));
+    commands
+}
+
+/// An event near what the breakpoint registers hold.
+pub fn event(rng: &mut Rng, board: &Board) -> String {
+    let pc = match rng.below(20) {
+        0..=10 => board.pbr & !1,
+        11..=12 => (board.pbr ^ rng.bit()) & !1,
+        13..=14 => (board.pbr ^ (rng.word() & board.pbmr)) & !1,
+        15 => board.pbr,
+        16 => rng.word() | 1,
+        17 => rng.word() & !1,
+        _ => board.pbr.wrapping_add(rng.pick(&[2, 0x10, 0xFFFF_FFFE])) & !1,
+    };
+    let pc = hex(rng, pc);
+    if rng.percent(25) {
+        return format!("event {pc}");
+    }
+    let address = match rng.below(16) {
+        0..=5 => board.ablr,
+        6 => board.abhr,
+        7 => board.ablr.wrapping_sub(1),
+        8 => board.ablr.wrapping_add(1),
+        9 => board.abhr.wrapping_sub(1),
+        10 => board.abhr.wrapping_add(1),
+        11 => rng.word(),
+        12 => rng.pick(&[0, 1, 2, 3, 0xFFFF_FFFF]),
+        _ => board.ablr.wrapping_add(rng.below(16)),
+    };
+    let [mask, wanted] = board.aatr.to_be_bytes();
+    let mut attribute = match rng.below(10) {
+        0..=5 => wanted,
+        6 => wanted ^ (rng.word() as u8 & mask),
+        7 => wanted ^ (1 << rng.below(8)),
+        8 => rng.word() as u8,
+        _ => wanted & !0x60 | rng.pick(&[0x00, 0x20, 0x40]),
+    };
+    if attribute & 0x60 == 0x60 && rng.percent(80) {
+        attribute &= rng.pick(&[0x9F, 0xBF, 0xDF]);
+    }
+    let data = match rng.below(10) {
+        0..=4 => board.dbr,
+        5..=6 => board.dbr ^ rng.bit(),
+        7 => board.dbr ^ (rng.word() & board.dbmr),
+        8 => rng.word(),
+        _ => 0,
+    };
+    format!(
+        "event {pc} {} {} {}",
+        hex(rng, address),
+        hex(rng, u32::from(attribute)),
+        hex(rng, data)
+    )
+}
