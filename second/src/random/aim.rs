@@ -1,13 +1,11 @@
 //! Where random numbers are aimed: at the edges of memory, at the breakpoint registers, at legal command words.
 
 use super::Rng;
-use crate::board::{Board, Chain};
+use crate::board::{bstat, Board, Chain};
 use crate::command::{Size, CONTROL_REGISTERS};
 use crate::desk::Bench;
 
-const MEMORY_LENGTHS: [u32; 16] = [
-    0, 1, 2, 3, 4, 5, 15, 16, 17, 64, 65_535, 65_536, 65_536, 65_537, 0x1000F, 0x10010,
-];
+const MEMORY_LENGTHS: [u32; 16] = [0, 1, 2, 3, 4, 5, 7, 8, 15, 16, 17, 64, 65_535, 65_536, 65_536, 65_537];
 
 const DEBUG_REGISTERS: [u32; 10] = [0x00, 0x05, 0x06, 0x07, 0x08, 0x09, 0x0C, 0x0D, 0x0E, 0x0F];
 
@@ -303,54 +301,77 @@ pub fn breakpoint_setup(rng: &mut Rng) -> Vec<Vec<u32>> {
     commands
 }
 
-/// An event near what the breakpoint registers hold.
+/// An event near what the breakpoint registers hold: agreeing with them, or all but for one field, or only by chance.
 pub fn event(rng: &mut Rng, board: &Board) -> String {
-    let pc = match rng.below(20) {
-        0..=10 => board.pbr & !1,
-        11..=12 => (board.pbr ^ rng.bit()) & !1,
-        13..=14 => (board.pbr ^ (rng.word() & board.pbmr)) & !1,
-        15 => board.pbr,
-        16 => rng.word() | 1,
-        17 => rng.word() & !1,
-        _ => board.pbr.wrapping_add(rng.pick(&[2, 0x10, 0xFFFF_FFFE])) & !1,
-    };
-    let pc = hex(rng, pc);
-    if rng.percent(25) {
-        return format!("event {pc}");
+    let wanted = board.aatr.to_be_bytes()[1];
+    let (mut pc, mut address, mut attribute, mut data) = (board.pbr & !1, board.ablr, wanted, board.dbr);
+    match rng.below(8) {
+        0..=2 => {}
+        3 => pc = near_pc(rng, board),
+        4 => address = near_address(rng, board),
+        5 => attribute = near_attribute(rng, board),
+        6 => data = near_data(rng, board),
+        _ => {
+            pc = near_pc(rng, board);
+            address = near_address(rng, board);
+            attribute = near_attribute(rng, board);
+            data = near_data(rng, board);
+        }
     }
-    let address = match rng.below(16) {
-        0..=5 => board.ablr,
-        6 => board.abhr,
-        7 => board.ablr.wrapping_sub(1),
-        8 => board.ablr.wrapping_add(1),
-        9 => board.abhr.wrapping_sub(1),
-        10 => board.abhr.wrapping_add(1),
-        11 => rng.word(),
-        12 => rng.pick(&[0, 1, 2, 3, 0xFFFF_FFFF]),
-        _ => board.ablr.wrapping_add(rng.below(16)),
-    };
-    let [mask, wanted] = board.aatr.to_be_bytes();
-    let mut attribute = match rng.below(10) {
-        0..=5 => wanted,
-        6 => wanted ^ (rng.word() as u8 & mask),
-        7 => wanted ^ (1 << rng.below(8)),
-        8 => rng.word() as u8,
-        _ => wanted & !0x60 | rng.pick(&[0x00, 0x20, 0x40]),
-    };
     if attribute & 0x60 == 0x60 && rng.percent(80) {
         attribute &= rng.pick(&[0x9F, 0xBF, 0xDF]);
     }
-    let data = match rng.below(10) {
-        0..=4 => board.dbr,
-        5..=6 => board.dbr ^ rng.bit(),
-        7 => board.dbr ^ (rng.word() & board.dbmr),
-        8 => rng.word(),
+    let pc = hex(rng, pc);
+    if rng.percent(20) {
+        return format!("event {pc}");
+    }
+    let attribute = hex(rng, u32::from(attribute));
+    format!("event {pc} {} {attribute} {}", hex(rng, address), hex(rng, data))
+}
+
+fn near_pc(rng: &mut Rng, board: &Board) -> u32 {
+    match rng.below(8) {
+        0..=1 => (board.pbr ^ rng.bit()) & !1,
+        2..=3 => (board.pbr ^ (rng.word() & board.pbmr)) & !1,
+        4 => board.pbr,
+        5 => rng.word(),
+        _ => board.pbr.wrapping_add(rng.pick(&[2, 0x10, 0xFFFF_FFFE])) & !1,
+    }
+}
+
+fn near_address(rng: &mut Rng, board: &Board) -> u32 {
+    match rng.below(10) {
+        0 => board.abhr,
+        1 => board.ablr.wrapping_sub(1),
+        2 => board.ablr.wrapping_add(1),
+        3 => board.abhr.wrapping_sub(1),
+        4 => board.abhr.wrapping_add(1),
+        5 => rng.word(),
+        6 => rng.pick(&[0, 1, 2, 3, 0xFFFF_FFFF]),
+        _ => board.ablr.wrapping_add(rng.below(16)),
+    }
+}
+
+fn near_attribute(rng: &mut Rng, board: &Board) -> u8 {
+    let [mask, wanted] = board.aatr.to_be_bytes();
+    match rng.below(4) {
+        0 => wanted ^ (rng.word() as u8 & mask),
+        1 => wanted ^ (1 << rng.below(8)),
+        2 => rng.word() as u8,
+        _ => wanted & !0x60 | rng.pick(&[0x00, 0x20, 0x40]),
+    }
+}
+
+fn near_data(rng: &mut Rng, board: &Board) -> u32 {
+    match rng.below(6) {
+        0..=2 => board.dbr ^ rng.bit(),
+        3 => board.dbr ^ (rng.word() & board.dbmr),
+        4 => rng.word(),
         _ => 0,
-    };
-    format!(
-        "event {pc} {} {} {}",
-        hex(rng, address),
-        hex(rng, u32::from(attribute)),
-        hex(rng, data)
-    )
+    }
+}
+
+/// True if a level of the trigger may fire.
+pub fn is_armed(board: &Board) -> bool {
+    matches!(board.bstat(), bstat::WAITING_LEVEL_1 | bstat::WAITING_LEVEL_2)
 }

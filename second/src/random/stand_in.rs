@@ -1,6 +1,6 @@
 //! Random scripts for `stand_in`.
 
-use super::aim::{breakpoint_setup, command, event, legal_word, memory_length, odd_word};
+use super::aim::{breakpoint_setup, command, event, is_armed, legal_word, memory_length, odd_word};
 use super::noise::{bench_line, noise};
 use super::Rng;
 use crate::desk::StandIn;
@@ -37,7 +37,11 @@ fn begin(rng: &mut Rng, writer: &mut Writer<StandIn>) {
 }
 
 fn step(rng: &mut Rng, writer: &mut Writer<StandIn>) {
-    match rng.below(100) {
+    // Ground 3 is tried now and then, not for long.
+    if writer.memory_length() > 65_536 && rng.once_in(3) {
+        writer.say(format!("memory {:X}", rng.below(65_537)));
+    }
+    match rng.below(99) {
         0..=44 => send_command(rng, writer),
         45..=49 => {
             for words in breakpoint_setup(rng) {
@@ -61,12 +65,6 @@ fn step(rng: &mut Rng, writer: &mut Writer<StandIn>) {
         97 => {
             let wide = rng.pick(&[0x2_0000, 0x2_0001, 0x3_0000, 0xFFFF_FFFF, 0x8000_0000]);
             writer.packet(wide);
-        }
-        98 => {
-            // Back to a memory that the port accepts.
-            if writer.memory_length() > 65_536 {
-                writer.say(format!("memory {:X}", rng.below(65_537)));
-            }
         }
         _ => begin(rng, writer),
     }
@@ -117,7 +115,13 @@ fn send(rng: &mut Rng, writer: &mut Writer<StandIn>, words: &[u32], spoil: u32) 
 
 fn send_events(rng: &mut Rng, writer: &mut Writer<StandIn>) {
     for _ in 0..rng.between(1, 4) {
-        if writer.board().is_halted() && rng.percent(90) {
+        if !is_armed(writer.board()) && rng.percent(50) {
+            writer.drain();
+            for words in breakpoint_setup(rng) {
+                writer.packets(&words);
+            }
+        }
+        if writer.board().is_halted() && rng.percent(95) {
             writer.drain();
             writer.packet(0x0C00);
         }

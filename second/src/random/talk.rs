@@ -1,6 +1,6 @@
 //! Random scripts for `talk`.
 
-use super::aim::{debug_value, event, memory_length};
+use super::aim::{debug_value, event, is_armed, memory_length};
 use super::noise::{bench_line, noise};
 use super::pod::request;
 use super::Rng;
@@ -24,8 +24,12 @@ fn begin(rng: &mut Rng, writer: &mut Writer<Talk>) {
 }
 
 fn step(rng: &mut Rng, writer: &mut Writer<Talk>) {
+    // Ground 3 is tried now and then, not for long.
+    if writer.memory_length() > 65_536 && rng.once_in(3) {
+        writer.say(format!("memory {:X}", rng.below(65_537)));
+    }
     let length = writer.memory_length();
-    match rng.below(100) {
+    match rng.below(99) {
         0..=39 => {
             let line = request(rng, length, 24);
             writer.say(line);
@@ -39,14 +43,11 @@ fn step(rng: &mut Rng, writer: &mut Writer<Talk>) {
                 Chain::None => writer.say(format!("read.{suffix} {:X}", rng.below(length.max(1)))),
             }
         }
-        55..=64 => {
-            for n in [0x06, 0x08, 0x09, 0x0C, 0x0D, 0x0E, 0x0F, 0x00, 0x07] {
-                if rng.percent(40) || n == 0x07 {
-                    writer.say(format!("wdmreg {n:X} {:X}", debug_value(rng, n)));
-                }
+        55..=58 => breakpoint_setup(rng, writer),
+        59..=79 => {
+            if !is_armed(writer.board()) && rng.percent(40) {
+                breakpoint_setup(rng, writer);
             }
-        }
-        65..=79 => {
             if writer.board().is_halted() && rng.percent(90) {
                 writer.say("go");
             }
@@ -61,11 +62,14 @@ fn step(rng: &mut Rng, writer: &mut Writer<Talk>) {
             let line = request(rng, length, 24);
             writer.say(noise(rng, line.as_bytes()));
         }
-        98 => {
-            if length > 65_536 {
-                writer.say(format!("memory {:X}", rng.below(65_537)));
-            }
-        }
         _ => begin(rng, writer),
+    }
+}
+
+fn breakpoint_setup(rng: &mut Rng, writer: &mut Writer<Talk>) {
+    for n in [0x06, 0x08, 0x09, 0x0C, 0x0D, 0x0E, 0x0F, 0x00, 0x07] {
+        if rng.percent(30) || n == 0x07 {
+            writer.say(format!("wdmreg {n:X} {:X}", debug_value(rng, n)));
+        }
     }
 }
