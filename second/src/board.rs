@@ -132,3 +132,57 @@ impl Board {
         self.csr = (self.csr & !csr::BSTAT) | (bstat << csr::BSTAT_SHIFT);
     }
 }
+
+#[cfg(test)]
+mod tests {
+    use super::*;
+    use crate::desk::{Program, StandIn};
+    use crate::random::{stand_in_script, Rng};
+
+    /// The ranges of ground 12. A board's fields are its own, so no line leads outside them.
+    fn is_within_ranges(board: &Board) -> bool {
+        let phase = match board.phase {
+            Phase::Waiting { command, left } => command.waits() && (1..=board.wait).contains(&left),
+            Phase::Operands { command, left } => (1..=command.operands()).contains(&left),
+            Phase::Rest | Phase::Low { .. } => true,
+        };
+        phase
+            && u32::from(board.wait) <= WAIT_LIMIT
+            && board.next <= 0x1FFFF
+            && [0, 1, 2, 5, 6].contains(&board.bstat())
+            && board.pointer <= 65_536
+    }
+
+    #[test]
+    fn no_line_leads_to_ground_12() {
+        for seed in 0..20 {
+            let mut program = StandIn::new();
+            for line in stand_in_script(&mut Rng::new(seed), 2000) {
+                program.answer(&line);
+                assert!(is_within_ranges(&program.bench.board), "{:?}", program.bench.board);
+            }
+        }
+    }
+
+    #[test]
+    fn a_run_of_packets_is_packet_by_packet() {
+        let mut rng = Rng::new(1);
+        for wait in 0..16 {
+            let mut one = Board::make(wait).unwrap();
+            let mut all = one.clone();
+            let packets: Vec<u32> = (0..2000)
+                .map(|_| match rng.below(4) {
+                    0 => rng.pick(&[0x1980, 0x1900, 0x1880, 0x1D00, 0x1C40, 0x2D80, 0x0C00, 0x2980]),
+                    1 => rng.below(0x2_0000),
+                    _ => rng.below(16),
+                })
+                .collect();
+            let mut memory = [0x5A; 24];
+            let replies: Vec<u32> = packets.iter().map(|&p| one.packet(&mut memory, p).unwrap()).collect();
+            let mut lent = [0x5A; 24];
+            let mut run = vec![0; packets.len()];
+            all.run(&mut lent, &packets, &mut run).unwrap();
+            assert_eq!((one, memory, replies), (all, lent, run));
+        }
+    }
+}

@@ -14,5 +14,6 @@ pub mod pod;
 pub mod random;
 pub mod refusal;
 pub mod script;
+pub mod stored;
 pub mod talk;
 pub mod trace;

@@ -1,6 +1,6 @@
 //! `second NAME ..`: the desk's programs, their stored lines, and the comparison with other programs.
 
-use second::{check, desk};
+use second::{check, desk, stored};
 use std::io::{self, BufWriter};
 use std::path::Path;
 use std::process::ExitCode;
@@ -23,6 +23,7 @@ fn main() -> ExitCode {
     let done = match arguments[..] {
         ["trace_list"] => list(),
         [name] if desk::LINE_PROGRAMS.contains(&name) => converse(name),
+        ["gen", directory] => stored::generate(Path::new(directory)).map(|()| true),
         ["expect", directory] => check::expect(Path::new(directory)).map(|()| true),
         ["compare", programs, vectors] => check::compare(Path::new(programs), Path::new(vectors), all),
         ["random", programs, seed, count] => match (seed.parse(), count.parse()) {
