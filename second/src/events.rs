@@ -103,17 +103,11 @@ impl Level {
 
 impl Board {
     fn level_1(&self) -> Level {
-        Level {
-            bits: self.tdr,
-            t: self.tdr & tdr::LEVEL_1_T != 0,
-        }
+        Level { bits: self.tdr, t: self.tdr & tdr::LEVEL_1_T != 0 }
     }
 
     fn level_2(&self) -> Level {
-        Level {
-            bits: self.tdr >> 16,
-            t: self.tdr & tdr::LEVEL_2_T != 0,
-        }
+        Level { bits: self.tdr >> 16, t: self.tdr & tdr::LEVEL_2_T != 0 }
     }
 
     pub(crate) fn write_tdr(&mut self, value: u32) {
@@ -136,10 +130,7 @@ impl Board {
         let level = self.fire(&event);
         let mut halted = false;
         let mut interrupt = false;
-        if matches!(
-            (level, self.bstat()),
-            (1, bstat::LEVEL_1_TRIGGERED) | (2, bstat::LEVEL_2_TRIGGERED)
-        ) {
+        if matches!((level, self.bstat()), (1, bstat::LEVEL_1_TRIGGERED) | (2, bstat::LEVEL_2_TRIGGERED)) {
             match self.tdr >> tdr::RESPONSE_SHIFT {
                 tdr::RESPONSE_HALT => {
                     halted = true;
@@ -154,12 +145,7 @@ impl Board {
         }
         self.halted = halted;
         let captured = std::mem::take(&mut self.sync);
-        Ok(EventAnswer {
-            level,
-            halted,
-            interrupt,
-            pc: captured.then_some(event.pc),
-        })
+        Ok(EventAnswer { level, halted, interrupt, pc: captured.then_some(event.pc) })
     }
 
     /// Tries the level that BSTAT waits for, moves BSTAT on if it fires, and gives the level fired.
@@ -167,11 +153,7 @@ impl Board {
         let (level_1, level_2) = (self.level_1(), self.level_2());
         match self.bstat() {
             bstat::WAITING_LEVEL_1 if level_1.has(tdr::EBL) && self.holds(level_1, event) => {
-                self.set_bstat(if level_2.has(tdr::EBL) {
-                    bstat::WAITING_LEVEL_2
-                } else {
-                    bstat::LEVEL_1_TRIGGERED
-                });
+                self.set_bstat(if level_2.has(tdr::EBL) { bstat::WAITING_LEVEL_2 } else { bstat::LEVEL_1_TRIGGERED });
                 1
             }
             bstat::WAITING_LEVEL_2 if level_2.has(tdr::EBL) && self.holds(level_2, event) => {
@@ -186,9 +168,7 @@ impl Board {
     fn holds(&self, level: Level, event: &Event) -> bool {
         let pc = level.has(tdr::EPC).then(|| self.pc_holds(level, event.pc));
         let address = level.has(tdr::EAL | tdr::EAR | tdr::EAI).then(|| {
-            event
-                .access
-                .is_some_and(|access| self.address_holds(level, &access) && self.data_holds(level, &access))
+            event.access.is_some_and(|access| self.address_holds(level, &access) && self.data_holds(level, &access))
         });
         match (pc, address) {
             (None, None) => false,
@@ -230,10 +210,7 @@ impl Board {
 
     /// The breakpoint input is asserted.
     pub fn breakpoint(&mut self) -> BreakpointAnswer {
-        let mut answer = BreakpointAnswer {
-            halted: false,
-            interrupt: false,
-        };
+        let mut answer = BreakpointAnswer { halted: false, interrupt: false };
         if self.halted {
             return answer;
         }

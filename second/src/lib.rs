@@ -17,3 +17,4 @@ pub mod script;
 pub mod stored;
 pub mod talk;
 pub mod trace;
+mod work;

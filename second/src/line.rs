@@ -55,10 +55,8 @@ pub fn number(word: &[u8]) -> Option<u32> {
 
 /// One or more bytes, two digits each.
 pub fn bytes(word: &[u8]) -> Option<Vec<u8>> {
-    if word.is_empty() || word.len() % 2 != 0 {
+    if word.is_empty() || !word.len().is_multiple_of(2) {
         return None;
     }
-    word.chunks_exact(2)
-        .map(|pair| Some((digit(pair[0])? << 4 | digit(pair[1])?) as u8))
-        .collect()
+    word.chunks_exact(2).map(|pair| Some((digit(pair[0])? << 4 | digit(pair[1])?) as u8)).collect()
 }

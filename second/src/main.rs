@@ -15,11 +15,7 @@ const USAGE: &str = "usage: second stand_in | pod | talk | trace_list
 fn main() -> ExitCode {
     let arguments: Vec<String> = std::env::args().skip(1).collect();
     let all = arguments.iter().any(|argument| argument == "--all");
-    let arguments: Vec<&str> = arguments
-        .iter()
-        .map(String::as_str)
-        .filter(|&argument| argument != "--all")
-        .collect();
+    let arguments: Vec<&str> = arguments.iter().map(String::as_str).filter(|&argument| argument != "--all").collect();
     let done = match arguments[..] {
         ["trace_list"] => list(),
         [name] if desk::LINE_PROGRAMS.contains(&name) => converse(name),

@@ -159,10 +159,7 @@ pub struct Reader {
 impl Reader {
     pub fn new(request: &Request) -> Result<Reader, Refusal> {
         request.judge()?;
-        Ok(Reader {
-            form: request.result_form(),
-            upper: None,
-        })
+        Ok(Reader { form: request.result_form(), upper: None })
     }
 
     /// Takes the next reply; an outcome closes the request.

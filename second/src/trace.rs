@@ -56,13 +56,7 @@ struct Decoder {
 
 impl Decoder {
     fn new() -> Decoder {
-        Decoder {
-            due: 0,
-            marker: 0,
-            shift: 0,
-            value: 0,
-            run: 0,
-        }
+        Decoder { due: 0, marker: 0, shift: 0, value: 0, run: 0 }
     }
 
     /// Takes one cycle and hands its items to `item`: first the value that ends here, then the cycle's own.

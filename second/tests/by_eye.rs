@@ -10,10 +10,7 @@ use second::trace::list_trace;
 #[test]
 fn p1_and_p2() {
     let mut desk = Desk::stand_in(1, 16);
-    assert_eq!(
-        desk.packets(&[0x1980, 0, 4, 0, 0, 0]),
-        [0x0FFFF, 0x10000, 0x10000, 0x10000, 0x00405, 0x00607]
-    );
+    assert_eq!(desk.packets(&[0x1980, 0, 4, 0, 0, 0]), [0x0FFFF, 0x10000, 0x10000, 0x10000, 0x00405, 0x00607]);
     assert_eq!(desk.packets(&[0x1D00, 0, 0]), [0x0FFFF, 0x10000, 0x00008]);
 }
 
@@ -101,10 +98,7 @@ fn limit_of_the_result_buffer() {
 #[test]
 fn limit_of_the_trace() {
     assert_eq!(list_trace(&vec![0; 65_536], &mut []), Ok(0));
-    assert_eq!(
-        list_trace(&vec![0x20; 65_537], &mut []),
-        Err(Ground::TraceTooLong.into())
-    );
+    assert_eq!(list_trace(&vec![0x20; 65_537], &mut []), Err(Ground::TraceTooLong.into()));
     assert_eq!(output_of("trace_list", &vec![0; 65_537]).unwrap(), b"refused 7 at 0\n");
 }
 
@@ -122,18 +116,9 @@ fn a_run_is_judged_before_it_is_taken() {
     let mut board = Board::make(0).unwrap();
     let fresh = board.clone();
     let mut replies = [9; 3];
-    assert_eq!(
-        board.run(&mut vec![0; 65_537], &[0x20000], &mut []),
-        Err(Ground::MemoryTooLong.into())
-    );
-    assert_eq!(
-        board.run(&mut [], &[1, 0x20000], &mut []),
-        Err(Ground::WordTooWide.into())
-    );
-    assert_eq!(
-        board.run(&mut [], &[1, 1, 1, 1], &mut replies),
-        Err(Ground::BufferTooShort.into())
-    );
+    assert_eq!(board.run(&mut vec![0; 65_537], &[0x20000], &mut []), Err(Ground::MemoryTooLong.into()));
+    assert_eq!(board.run(&mut [], &[1, 0x20000], &mut []), Err(Ground::WordTooWide.into()));
+    assert_eq!(board.run(&mut [], &[1, 1, 1, 1], &mut replies), Err(Ground::BufferTooShort.into()));
     assert_eq!((&board, replies), (&fresh, [9; 3]));
     assert_eq!(board.run(&mut [], &[0x19C0, 0], &mut replies), Ok(()));
     assert_eq!(replies, [0x0FFFF, 0x1FFFF, 9]);

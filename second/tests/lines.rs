@@ -6,12 +6,7 @@ use second::desk::output_of;
 
 fn unclear(desk: &mut Desk, line: &[u8]) {
     let before = desk.say("state");
-    assert_eq!(
-        desk.say_bytes(line).as_deref(),
-        Some("unclear"),
-        "{}",
-        String::from_utf8_lossy(line)
-    );
+    assert_eq!(desk.say_bytes(line).as_deref(), Some("unclear"), "{}", String::from_utf8_lossy(line));
     assert_eq!(desk.say("state"), before);
 }
 
@@ -137,10 +132,7 @@ fn the_line_end_is_not_counted_and_the_last_may_lack_it() {
     assert_eq!(output_of("stand_in", script.as_bytes()).unwrap(), answers);
     assert_eq!(output_of("stand_in", (script + "\n").as_bytes()).unwrap(), answers);
     assert_eq!(output_of("stand_in", b"").unwrap(), b"");
-    assert_eq!(
-        output_of("stand_in", b"packet 0\n ").unwrap(),
-        b"reply 0FFFF\nunclear\n"
-    );
+    assert_eq!(output_of("stand_in", b"packet 0\n ").unwrap(), b"reply 0FFFF\nunclear\n");
 }
 
 #[test]
@@ -174,54 +166,17 @@ fn the_fresh_state() {
 #[test]
 fn requests() {
     for line in [
-        "build",
-        "build ",
-        "build read",
-        "build read.b",
-        "build read.x 0",
-        "build READ.b 0",
-        "build read.B 0",
-        "build go 0",
-        "build dump.b 0",
-        "build .b",
-        "build b",
-        "build go.b",
-        "build rdreg.b 0",
-        "build rdreg 100000000",
-        "build write.b 0",
-        "build wcreg 0",
-        "build  go",
-        "build sync-pc",
-        "read",
-        "read go",
-        "read go:",
-        "read go : ",
-        "read go  :",
-        "read go :  FFFF",
-        "read go : FFFF ",
-        "read go : : FFFF",
-        "read : FFFF",
-        "read go : 100000000",
-        "read go : FFFF 100000000",
-        "read go : FFFF x",
-        "go",
-        "state",
-        "packet 0",
-        "make 0",
+        "build", "build ", "build read", "build read.b", "build read.x 0", "build READ.b 0", "build read.B 0",
+        "build go 0", "build dump.b 0", "build .b", "build b", "build go.b", "build rdreg.b 0",
+        "build rdreg 100000000", "build write.b 0", "build wcreg 0", "build  go", "build sync-pc", "read", "read go",
+        "read go:", "read go : ", "read go  :", "read go :  FFFF", "read go : FFFF ", "read go : : FFFF",
+        "read : FFFF", "read go : 100000000", "read go : FFFF 100000000", "read go : FFFF x", "go", "state",
+        "packet 0", "make 0",
     ] {
         assert_eq!(Desk::new("pod").say(line), "unclear", "{line}");
     }
-    for line in [
-        "packet 0",
-        "build go",
-        "read go :",
-        "go 0",
-        "read.b",
-        "read.b 0 0",
-        "rdreg",
-        "Go",
-        "read.b 100000000",
-    ] {
+    for line in ["packet 0", "build go", "read go :", "go 0", "read.b", "read.b 0 0", "rdreg", "Go", "read.b 100000000"]
+    {
         assert_eq!(Desk::new("talk").say(line), "unclear", "{line}");
     }
 }

@@ -15,12 +15,7 @@ fn each_answer_is_written_before_the_next_line_is_read() {
         ("pod", "build go", "words 00C00"),
         ("talk", "nop", "complete packets 2"),
     ] {
-        let mut child = Command::new(SECOND)
-            .arg(program)
-            .stdin(Stdio::piped())
-            .stdout(Stdio::piped())
-            .spawn()
-            .unwrap();
+        let mut child = Command::new(SECOND).arg(program).stdin(Stdio::piped()).stdout(Stdio::piped()).spawn().unwrap();
         let mut input = child.stdin.take().unwrap();
         let mut output = BufReader::new(child.stdout.take().unwrap()).lines();
         for _ in 0..3 {
@@ -75,15 +70,9 @@ fn a_difference_is_shown_with_its_cause() {
     let bin = directory.to_str().unwrap();
     let (good, text) = second(&["compare", bin, &vectors()]);
     assert!(!good && text.contains("DIFFERS stand_in/boundaries\n"), "{text}");
-    assert!(
-        text.contains("  expected: reply 10001\n  actual:   reply 10002\n"),
-        "{text}"
-    );
+    assert!(text.contains("  expected: reply 10001\n  actual:   reply 10002\n"), "{text}");
     let (good, text) = second(&["random", bin, "1", "20"]);
-    assert!(
-        !good && text.contains("the shortest script found:\n    packet "),
-        "{text}"
-    );
+    assert!(!good && text.contains("the shortest script found:\n    packet "), "{text}");
     let (good, text) = second(&["soak", bin, "20"]);
     assert!(!good && text.contains("DIFFERS at seed "), "{text}");
 }
@@ -101,10 +90,7 @@ fn missing_programs_are_reported() {
     fs::remove_file(directory.join("talk")).unwrap();
     let bin = directory.to_str().unwrap();
     let (good, text) = second(&["compare", bin, &vectors()]);
-    assert!(
-        good && text.starts_with("missing talk\n") && text.ends_with("1 missing\n"),
-        "{text}"
-    );
+    assert!(good && text.starts_with("missing talk\n") && text.ends_with("1 missing\n"), "{text}");
     let (good, _) = second(&["compare", "--all", bin, &vectors()]);
     assert!(!good);
     let (good, _) = second(&["random", "--all", bin, "1", "1"]);

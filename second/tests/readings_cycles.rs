@@ -31,10 +31,7 @@ fn a_run_is_of_one_code() {
     assert_eq!(listed("C0 D0 C0"), Ok(vec![(0, 12, 0), (1, 13, 0), (2, 12, 0)]));
     assert_eq!(listed("C0 10 C0"), Ok(vec![(0, 12, 0), (1, 1, 0), (2, 12, 0)]));
     assert_eq!(listed("80 C0 C0 80 C0 00"), Ok(vec![(1, 12, 0), (2, 8, 0), (5, 8, 0)]));
-    assert_eq!(
-        listed("C0 80 D0 C0"),
-        Ok(vec![(0, 12, 0), (2, 13, 0), (3, 8, 0), (3, 12, 0)])
-    );
+    assert_eq!(listed("C0 80 D0 C0"), Ok(vec![(0, 12, 0), (2, 13, 0), (3, 8, 0), (3, 12, 0)]));
 }
 
 #[test]
@@ -47,11 +44,7 @@ fn nibbles_least_significant_first() {
 
 #[test]
 fn markers_and_transfers() {
-    assert_eq!(
-        listed("80 01 82 03 04"),
-        Ok(vec![(2, 8, 0x21), (4, 8, 0x43)]),
-        "on the last nibble's cycle"
-    );
+    assert_eq!(listed("80 01 82 03 04"), Ok(vec![(2, 8, 0x21), (4, 8, 0x43)]), "on the last nibble's cycle");
     assert_eq!(listed("80 81 02"), Err((9, 1)), "one cycle earlier");
     assert_eq!(listed("80 01 82"), Err((10, 0)), "in the last cycle");
     assert_eq!(listed("B0 00 00 00 00 00 00 80"), Err((9, 7)));

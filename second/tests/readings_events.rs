@@ -95,10 +95,7 @@ fn data_needs_an_address_bit_and_di_needs_a_comparator() {
     assert!(!fires(EBL | EAL | EDLW, "0 2000 05 11223345"));
     assert!(fires(EBL | EAL | EDLW | DI, "0 2000 05 11223345"));
     assert!(fires(EBL | EAL | DI, "0 2000 05 0"));
-    assert!(
-        fires(EBL | EPC | EDLW, "1000"),
-        "ED without an address bit does nothing"
-    );
+    assert!(fires(EBL | EPC | EDLW, "1000"), "ED without an address bit does nothing");
 }
 
 #[test]
@@ -159,10 +156,7 @@ fn lanes_not_carried_read_as_zero() {
         let mut desk = running(EBL | EAR | EDLW);
         desk.debug(0x06, 0xFF05);
         desk.debug(0x0E, lanes);
-        assert_eq!(
-            desk.event(&format!("0 {:X} {attribute:X} FFFFFFFF", 0x2000 + offset)),
-            FIRED
-        );
+        assert_eq!(desk.event(&format!("0 {:X} {attribute:X} FFFFFFFF", 0x2000 + offset)), FIRED);
     }
 }
 
@@ -219,15 +213,8 @@ fn responses() {
 fn ssm_halts_after_each_event_and_sets_no_flag() {
     let mut desk = running(0x8000_0000 | EBL | EPC);
     desk.debug(0x00, 0x10);
-    assert_eq!(
-        desk.event("1000"),
-        "1 1 1 none",
-        "SSM and an interrupt may both be answered"
-    );
-    assert_eq!(
-        (desk.state("halted"), desk.state("csr")),
-        ("1".into(), "20100010".into())
-    );
+    assert_eq!(desk.event("1000"), "1 1 1 none", "SSM and an interrupt may both be answered");
+    assert_eq!((desk.state("halted"), desk.state("csr")), ("1".into(), "20100010".into()));
     desk.go();
     assert_eq!(desk.event("1002"), "0 1 0 none");
     desk.go();
@@ -246,10 +233,7 @@ fn the_breakpoint_input() {
     assert_eq!(desk.say("breakpoint"), "breakpoint halted 0 interrupt 0");
     desk.go();
     assert_eq!(desk.say("breakpoint"), "breakpoint halted 0 interrupt 1");
-    assert_eq!(
-        (desk.state("csr"), desk.state("halted")),
-        ("00140000".into(), "0".into())
-    );
+    assert_eq!((desk.state("csr"), desk.state("halted")), ("00140000".into(), "0".into()));
 }
 
 #[test]

@@ -84,29 +84,17 @@ fn pbr_keeps_all_bits() {
 fn replies_by_phase_and_held_next_reply() {
     let mut desk = Desk::stand_in(2, 16);
     desk.packet(0x1980);
-    assert_eq!(
-        (desk.state("phase"), desk.state("next")),
-        ("operands:2".into(), "10000".into())
-    );
+    assert_eq!((desk.state("phase"), desk.state("next")), ("operands:2".into(), "10000".into()));
     assert_eq!(desk.packet(0), NOT_READY);
     assert_eq!(desk.state("phase"), "operands:1");
     assert_eq!(desk.packet(4), NOT_READY);
-    assert_eq!(
-        (desk.state("phase"), desk.state("next")),
-        ("waiting:2".into(), "10000".into())
-    );
+    assert_eq!((desk.state("phase"), desk.state("next")), ("waiting:2".into(), "10000".into()));
     assert_eq!(desk.packet(0x1FFFF), NOT_READY);
     assert_eq!(desk.state("phase"), "waiting:1");
     assert_eq!(desk.packet(0x1FFFF), NOT_READY);
-    assert_eq!(
-        (desk.state("phase"), desk.state("next")),
-        ("low:0607".into(), "00405".into())
-    );
+    assert_eq!((desk.state("phase"), desk.state("next")), ("low:0607".into(), "00405".into()));
     assert_eq!(desk.packet(0x1FFFF), 0x0405, "C is ignored with the rest");
-    assert_eq!(
-        (desk.state("phase"), desk.state("next")),
-        ("rest".into(), "00607".into())
-    );
+    assert_eq!((desk.state("phase"), desk.state("next")), ("rest".into(), "00607".into()));
     assert_eq!(desk.state("chain"), "dump");
 }
 
@@ -161,10 +149,7 @@ fn c_on_an_operand_drops_the_command() {
     let mut desk = Desk::stand_in(0, 16);
     desk.close(&[0x1800, 0, 0, 0x55]);
     // The dropped word would be a GO, but it is not also a command word.
-    assert_eq!(
-        desk.packets(&[0x1C00, 0x10C00, 0, 0]),
-        [COMPLETE, NOT_READY, ILLEGAL, COMPLETE]
-    );
+    assert_eq!(desk.packets(&[0x1C00, 0x10C00, 0, 0]), [COMPLETE, NOT_READY, ILLEGAL, COMPLETE]);
     assert_eq!((desk.state("halted"), desk.state("chain")), ("1".into(), "none".into()));
     assert_eq!(desk.say("peek 0 2"), "peek 5501");
 }
@@ -209,11 +194,7 @@ fn only_nop_leaves_the_chain() {
     let mut desk = Desk::stand_in(0, 16);
     desk.close(&[0x1800, 0, 0, 0]);
     assert_eq!(desk.close(&[0x1D00]), ILLEGAL);
-    assert_eq!(
-        desk.packets(&[0x1C00, 0])[1],
-        ILLEGAL,
-        "an illegal DUMP ends the fill chain"
-    );
+    assert_eq!(desk.packets(&[0x1C00, 0])[1], ILLEGAL, "an illegal DUMP ends the fill chain");
 }
 
 #[test]
@@ -229,10 +210,7 @@ fn events_halts_and_refusals_leave_the_chain() {
     desk.say("memory 10001");
     desk.say("packet 0");
     desk.say("memory 10");
-    assert_eq!(
-        (desk.state("chain"), desk.state("pointer")),
-        ("dump".into(), "00001".into())
-    );
+    assert_eq!((desk.state("chain"), desk.state("pointer")), ("dump".into(), "00001".into()));
 }
 
 #[test]
@@ -247,10 +225,7 @@ fn one_pointer_serves_both_kinds_and_is_aligned_downward() {
     desk.close(&[0x1800, 0, 0, 0]);
     assert_eq!(desk.state("pointer"), "00001");
     desk.close(&[0x1C80, 0x1122, 0x3344]);
-    assert_eq!(
-        (desk.say("peek 0 5"), desk.state("pointer")),
-        ("peek 1122334404".into(), "00004".into())
-    );
+    assert_eq!((desk.say("peek 0 5"), desk.state("pointer")), ("peek 1122334404".into(), "00004".into()));
 }
 
 #[test]
@@ -258,10 +233,7 @@ fn a_bus_error_does_not_move_the_pointer_and_ends_the_chain() {
     let mut desk = Desk::stand_in(0, 3);
     desk.close(&[0x1900, 0, 2]);
     assert_eq!(desk.close(&[0x1D00]), BUS_ERROR);
-    assert_eq!(
-        (desk.state("pointer"), desk.state("chain")),
-        ("00003".into(), "none".into())
-    );
+    assert_eq!((desk.state("pointer"), desk.state("chain")), ("00003".into(), "none".into()));
     desk.close(&[0x1900, 0, 0]);
     assert_eq!(desk.close(&[0x1D40]), 0x0001);
     assert_eq!(desk.close(&[0x1D40]), BUS_ERROR, "one byte of two is beyond memory");
@@ -306,15 +278,9 @@ fn csr_write_reaches_its_bits_only() {
     let mut desk = Desk::stand_in(0, 0);
     desk.debug(0x07, 0x2002);
     desk.debug(0x00, 0xFFFF_FFFF);
-    assert_eq!(
-        (desk.state("csr"), desk.state("halted")),
-        ("1117FF70".into(), "1".into())
-    );
+    assert_eq!((desk.state("csr"), desk.state("halted")), ("1117FF70".into(), "1".into()));
     desk.debug(0x00, 0);
-    assert_eq!(
-        (desk.state("csr"), desk.state("halted")),
-        ("11100000".into(), "1".into())
-    );
+    assert_eq!((desk.state("csr"), desk.state("halted")), ("11100000".into(), "1".into()));
 }
 
 #[test]
@@ -341,10 +307,7 @@ fn control_registers_keep_32_bits() {
     let mut desk = Desk::stand_in(1, 0);
     let listed = [0x002, 0x004, 0x005, 0x801, 0x804, 0x805, 0x806, 0x80E, 0x80F, 0xC04];
     for (i, rc) in listed.iter().enumerate() {
-        assert_eq!(
-            desk.close(&[0x2880, 0, *rc, 0xFFF0 + i as u32, 0xABC0 + i as u32]),
-            COMPLETE
-        );
+        assert_eq!(desk.close(&[0x2880, 0, *rc, 0xFFF0 + i as u32, 0xABC0 + i as u32]), COMPLETE);
     }
     for (i, rc) in listed.iter().enumerate() {
         let replies = desk.packets(&[0x2980, 0, *rc, 0, 0, 0]);
@@ -378,10 +341,7 @@ fn the_table_of_command_words() {
     // 3 + 4 kinds of 3 sizes + 2 of 16 registers + 2 control + CSR read + 10 debug registers written
     assert_eq!(legal.len(), 3 + 12 + 32 + 2 + 1 + 10);
     let written: Vec<u16> = legal.iter().copied().filter(|word| word >> 8 == 0x2C).collect();
-    assert_eq!(
-        written,
-        [0x2C80, 0x2C85, 0x2C86, 0x2C87, 0x2C88, 0x2C89, 0x2C8C, 0x2C8D, 0x2C8E, 0x2C8F]
-    );
+    assert_eq!(written, [0x2C80, 0x2C85, 0x2C86, 0x2C87, 0x2C88, 0x2C89, 0x2C8C, 0x2C8D, 0x2C8E, 0x2C8F]);
     for (word, operands) in [
         (0x2180, 0),
         (0x2080, 2),

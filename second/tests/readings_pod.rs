@@ -40,24 +40,11 @@ fn every_request_is_built() {
 #[test]
 fn fields_out_of_range() {
     for request in [
-        "rdreg 10",
-        "wdreg 10 0",
-        "write.b 0 100",
-        "write.w 0 10000",
-        "fill.b 100",
-        "fill.w 10000",
-        "rcreg 1000",
-        "wcreg 1000 0",
-        "rdmreg 20",
-        "wdmreg 20 0",
-        "rdreg FFFFFFFF",
+        "rdreg 10", "wdreg 10 0", "write.b 0 100", "write.w 0 10000", "fill.b 100", "fill.w 10000", "rcreg 1000",
+        "wcreg 1000 0", "rdmreg 20", "wdmreg 20 0", "rdreg FFFFFFFF",
     ] {
         assert_eq!(pod(&format!("build {request}")), "refused 13 at 0", "{request}");
-        assert_eq!(
-            pod(&format!("read {request} : FFFFFFFF")),
-            "refused 13 at 0",
-            "{request}"
-        );
+        assert_eq!(pod(&format!("read {request} : FFFFFFFF")), "refused 13 at 0", "{request}");
     }
 }
 
@@ -102,10 +89,7 @@ fn talk_counts_its_packets() {
         // Command, operands, waits, result words.
         assert_eq!(desk.say("read.b 4"), format!("value 00000004 packets {}", 3 + w + 1));
         assert_eq!(desk.say("dump.l"), format!("value 04050607 packets {}", 1 + w + 2));
-        assert_eq!(
-            desk.say("write.l 0 11223344"),
-            format!("complete packets {}", 5 + w + 1)
-        );
+        assert_eq!(desk.say("write.l 0 11223344"), format!("complete packets {}", 5 + w + 1));
         assert_eq!(desk.say("fill.w 5566"), format!("complete packets {}", 2 + w + 1));
         assert_eq!(desk.say("read.w 10"), format!("bus-error packets {}", 3 + w + 1));
         assert_eq!(desk.say("dump.b"), "illegal packets 2");

@@ -19,10 +19,8 @@ fn stored_inputs_are_what_gen_writes() {
         assert!(names.insert(path.clone()), "{} twice", path.display());
         assert!(fs::read(&path).unwrap() == stored.input, "{}", path.display());
     }
-    let present: BTreeSet<PathBuf> = PROGRAMS
-        .iter()
-        .flat_map(|program| scripts_of(program, &vectors()).unwrap())
-        .collect();
+    let present: BTreeSet<PathBuf> =
+        PROGRAMS.iter().flat_map(|program| scripts_of(program, &vectors()).unwrap()).collect();
     assert_eq!(present, names);
 }
 

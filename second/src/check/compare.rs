@@ -1,8 +1,7 @@
 //! The programs under test over the stored inputs.
 
-use super::difference::{first_difference, Difference};
+use super::difference::try_expected;
 use super::expect::{read_file, scripts_of};
-use super::run::run;
 use super::Found;
 use std::path::Path;
 
@@ -21,11 +20,7 @@ pub fn compare(programs: &Path, vectors: &Path, all: bool) -> Result<bool, Strin
             let input = read_file(&script)?;
             let expected = read_file(&script.with_extension("out"))?;
             let label = format!("{name}/{}", script.file_stem().unwrap_or_default().to_string_lossy());
-            let difference = match run(program, &input) {
-                Ok(actual) => first_difference(name, &input, &expected, &actual),
-                Err(message) => Some(Difference::Failed(message)),
-            };
-            match difference {
+            match try_expected(name, program, &input, &expected) {
                 None => {
                     agree += 1;
                     println!("agrees  {label}");

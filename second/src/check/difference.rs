@@ -1,6 +1,6 @@
 //! Where two outputs part, and the input line that caused it.
 
-use super::run::run;
+use super::run::{run, Run};
 use crate::desk::output_of;
 use crate::script::to_bytes;
 use std::fmt;
@@ -16,31 +16,48 @@ pub enum Difference {
         answer: usize,
         expected: Option<Vec<u8>>,
         actual: Option<Vec<u8>>,
+        /// How the program ended, if that is worth a word.
+        note: String,
     },
     Failed(String),
 }
 
-/// Compares the outputs of one program for one input.
-pub fn first_difference(program: &str, input: &[u8], expected: &[u8], actual: &[u8]) -> Option<Difference> {
-    if expected == actual {
+/// Runs a program under test on an input and compares its output with the expected one.
+pub fn try_expected(name: &str, program: &Path, input: &[u8], expected: &[u8]) -> Option<Difference> {
+    match run(program, input) {
+        Ok(run) => first_difference(name, input, expected, run),
+        Err(message) => Some(Difference::Failed(message)),
+    }
+}
+
+/// As `try_expected`, with what this program prints.
+pub fn try_input(name: &str, program: &Path, input: &[u8]) -> Option<Difference> {
+    let expected = output_of(name, input).expect("a program's name");
+    try_expected(name, program, input, &expected)
+}
+
+/// As `try_input`, for the lines of a script.
+pub fn try_lines(name: &str, program: &Path, lines: &[Vec<u8>], last_ended: bool) -> Option<Difference> {
+    try_input(name, program, &to_bytes(lines, last_ended))
+}
+
+fn first_difference(name: &str, input: &[u8], expected: &[u8], run: Run) -> Option<Difference> {
+    if expected == run.output {
         return None;
     }
     let mut expected_lines = expected.split_inclusive(|&byte| byte == b'\n');
-    let mut actual_lines = actual.split_inclusive(|&byte| byte == b'\n');
+    let mut actual_lines = run.output.split_inclusive(|&byte| byte == b'\n');
     let mut answer = 0;
     loop {
         answer += 1;
         let (expected, actual) = (expected_lines.next(), actual_lines.next());
         if expected != actual {
             return Some(Difference::Line {
-                cause: if program == "trace_list" {
-                    None
-                } else {
-                    cause(input, answer)
-                },
+                cause: if name == "trace_list" { None } else { cause(input, answer) },
                 answer,
                 expected: expected.map(<[u8]>::to_vec),
                 actual: actual.map(<[u8]>::to_vec),
+                note: run.note,
             });
         }
     }
@@ -56,36 +73,21 @@ fn cause(input: &[u8], answer: usize) -> Option<(usize, Vec<u8>)> {
         .map(|(place, line)| (place + 1, line.to_vec()))
 }
 
-/// Runs a program under test on an input and compares it with this program's output.
-pub fn try_input(name: &str, program: &Path, input: &[u8]) -> Option<Difference> {
-    let expected = output_of(name, input).expect("a program's name");
-    match run(program, input) {
-        Ok(actual) => first_difference(name, input, &expected, &actual),
-        Err(message) => Some(Difference::Failed(message)),
-    }
-}
-
-/// As `try_input`, for the lines of a script.
-pub fn try_lines(name: &str, program: &Path, lines: &[Vec<u8>], last_ended: bool) -> Option<Difference> {
-    try_input(name, program, &to_bytes(lines, last_ended))
-}
-
 impl fmt::Display for Difference {
     fn fmt(&self, f: &mut fmt::Formatter<'_>) -> fmt::Result {
         match self {
             Difference::Failed(message) => write!(f, "  {message}"),
-            Difference::Line {
-                cause,
-                answer,
-                expected,
-                actual,
-            } => {
+            Difference::Line { cause, answer, expected, actual, note } => {
                 match cause {
                     Some((number, line)) => writeln!(f, "  line {number}:   {}", shown(Some(line)))?,
                     None => writeln!(f, "  output line {answer}")?,
                 }
                 writeln!(f, "  expected: {}", shown(expected.as_deref()))?;
-                write!(f, "  actual:   {}", shown(actual.as_deref()))
+                write!(f, "  actual:   {}", shown(actual.as_deref()))?;
+                if !note.is_empty() {
+                    write!(f, "\n  {note}")?;
+                }
+                Ok(())
             }
         }
     }

@@ -28,10 +28,7 @@ pub struct Found {
 
 impl Found {
     pub fn within(directory: &Path) -> Found {
-        let mut found = Found {
-            present: Vec::new(),
-            missing: Vec::new(),
-        };
+        let mut found = Found { present: Vec::new(), missing: Vec::new() };
         for name in PROGRAMS {
             let path = directory.join(name);
             if path.is_file() {

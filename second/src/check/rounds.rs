@@ -5,8 +5,10 @@ use super::shrink::shrink;
 use super::Found;
 use crate::random::{random_script, random_trace, Rng};
 use std::path::Path;
+use std::time::Duration;
 
-const SHRINK_BUDGET: usize = 2000;
+/// How long the shortest case is looked for.
+const SHRINK_TIME: Duration = Duration::from_secs(60);
 const TRACES: usize = 20;
 
 /// How many lines a round's script has.
@@ -27,11 +29,9 @@ pub struct Tally {
 
 /// Each program has its own stream of numbers, so that a missing one does not change the others.
 fn stream(seed: u64, program: &str) -> Rng {
-    let name = program
-        .bytes()
-        .fold(0u64, |sum, byte| sum.wrapping_mul(31).wrapping_add(u64::from(byte)));
+    let name = program.bytes().fold(0u64, |sum, byte| sum.wrapping_mul(31).wrapping_add(u64::from(byte)));
     let mut rng = Rng::new(seed ^ name.rotate_left(32));
-    rng.next();
+    rng.draw();
     rng
 }
 
@@ -67,30 +67,23 @@ fn script_report(
     difference: &Difference,
 ) -> String {
     // Nothing after the line that shows the difference is needed to show it.
-    if let Difference::Line {
-        cause: Some((number, _)),
-        ..
-    } = difference
-    {
+    if let Difference::Line { cause: Some((number, _)), .. } = difference {
         let head = lines[..(*number).min(lines.len())].to_vec();
         if try_lines(name, program, &head, true).is_some() {
             lines = head;
         }
     }
     let fails = |lines: &[Vec<u8>]| try_lines(name, program, lines, last_ended).is_some();
-    let shortest = shrink(&lines, SHRINK_BUDGET, fails);
+    let shortest = shrink(&lines, SHRINK_TIME, fails);
     let difference = try_lines(name, program, &shortest, last_ended)
         .map_or_else(|| difference.to_string(), |difference| difference.to_string());
-    let script: String = shortest
-        .iter()
-        .map(|line| format!("    {}\n", shown(Some(line))))
-        .collect();
+    let script: String = shortest.iter().map(|line| format!("    {}\n", shown(Some(line)))).collect();
     format!("{name} differs; the shortest script found:\n{script}{difference}")
 }
 
 fn trace_report(program: &Path, trace: &[u8], difference: &Difference) -> String {
     let fails = |trace: &[u8]| try_input("trace_list", program, trace).is_some();
-    let shortest = shrink(trace, SHRINK_BUDGET, fails);
+    let shortest = shrink(trace, SHRINK_TIME, fails);
     let difference = try_input("trace_list", program, &shortest)
         .map_or_else(|| difference.to_string(), |difference| difference.to_string());
     let cycles: String = shortest.iter().map(|byte| format!(" {byte:02X}")).collect();

@@ -12,8 +12,16 @@ const PATIENCE: Duration = Duration::from_secs(60);
 /// The most output that is looked at.
 const OUTPUT_LIMIT: u64 = 1 << 26;
 
-/// The output of the program for this input, or what went wrong.
-pub fn run(program: &Path, input: &[u8]) -> Result<Vec<u8>, String> {
+/// What a program did with its input.
+pub struct Run {
+    pub output: Vec<u8>,
+    /// How it ended and what it complained of, if either is worth a word. The language has no exit status, so an output is
+    /// compared whatever the status is.
+    pub note: String,
+}
+
+/// Runs the program to its end; or says why it came to none: it could not be started, was killed, or did not stop.
+pub fn run(program: &Path, input: &[u8]) -> Result<Run, String> {
     let mut child = Command::new(program)
         .stdin(Stdio::piped())
         .stdout(Stdio::piped())
@@ -25,9 +33,9 @@ pub fn run(program: &Path, input: &[u8]) -> Result<Vec<u8>, String> {
     let stderr = child.stderr.take().expect("its complaints are a pipe");
     let input = input.to_vec();
     // A program that ends early closes its input; its output tells the rest.
-    let writer = thread::spawn(move || drop(stdin.write_all(&input)));
+    thread::spawn(move || drop(stdin.write_all(&input)));
     let (sender, receiver) = mpsc::channel();
-    let reader = thread::spawn(move || {
+    thread::spawn(move || {
         let mut output = Vec::new();
         let read = stdout.take(OUTPUT_LIMIT).read_to_end(&mut output);
         drop(sender.send(read.map(|_| output)));
@@ -37,24 +45,17 @@ pub fn run(program: &Path, input: &[u8]) -> Result<Vec<u8>, String> {
         drop(stderr.take(4096).read_to_end(&mut text));
         text
     });
-    let output = match receiver.recv_timeout(PATIENCE) {
-        Ok(output) => output.map_err(|error| format!("its output could not be read: {error}")),
-        Err(_) => {
-            drop(child.kill());
-            Err(format!("no end of output after {} seconds", PATIENCE.as_secs()))
-        }
+    let Ok(output) = receiver.recv_timeout(PATIENCE) else {
+        drop(child.kill());
+        drop(child.wait());
+        return Err(format!("no end of output after {} seconds", PATIENCE.as_secs()));
     };
+    let output = output.map_err(|error| format!("its output could not be read: {error}"))?;
     let status = child.wait().map_err(|error| error.to_string())?;
-    drop(writer.join());
-    drop(reader.join());
-    let complaints = complaints.join().unwrap_or_default();
-    let output = output?;
-    if status.success() {
-        Ok(output)
-    } else {
-        Err(format!(
-            "it ended with {status}: {}",
-            String::from_utf8_lossy(&complaints)
-        ))
+    let complaints = String::from_utf8_lossy(&complaints.join().unwrap_or_default()).into_owned();
+    match status.code() {
+        None => Err(format!("it ended with {status}: {complaints}")),
+        Some(0) if complaints.is_empty() => Ok(Run { output, note: String::new() }),
+        Some(code) => Ok(Run { output, note: format!("it ended with status {code} and said: {complaints}") }),
     }
 }

@@ -1,25 +1,26 @@
 //! The shortest script that still shows a difference (delta debugging).
 
-/// Removes parts of `items` as long as what is left still fails, in at most `budget` trials.
-pub fn shrink<T: Clone>(items: &[T], budget: usize, mut fails: impl FnMut(&[T]) -> bool) -> Vec<T> {
+use std::time::{Duration, Instant};
+
+/// Leaves parts of `items` out as long as what is left still fails, for so much time at most.
+pub fn shrink<T: Clone>(items: &[T], time: Duration, mut fails: impl FnMut(&[T]) -> bool) -> Vec<T> {
+    let start = Instant::now();
     let mut kept = items.to_vec();
-    let mut trials = 0;
     let mut part = kept.len().div_ceil(2);
     while part > 0 {
         let mut removed = false;
-        let mut start = 0;
-        while start < kept.len() {
-            if trials == budget {
+        let mut from = 0;
+        while from < kept.len() {
+            if start.elapsed() > time {
                 return kept;
             }
-            trials += 1;
-            let end = (start + part).min(kept.len());
-            let shorter = [&kept[..start], &kept[end..]].concat();
+            let to = (from + part).min(kept.len());
+            let shorter = [&kept[..from], &kept[to..]].concat();
             if fails(&shorter) {
                 kept = shorter;
                 removed = true;
             } else {
-                start = end;
+                from = to;
             }
         }
         if part > 1 {

@@ -16,9 +16,7 @@ pub fn soak(programs: &Path, seconds: u64, all: bool) -> bool {
     if found.present.is_empty() {
         return false;
     }
-    let first_seed = SystemTime::now()
-        .duration_since(UNIX_EPOCH)
-        .map_or(1, |since| since.as_nanos() as u64);
+    let first_seed = SystemTime::now().duration_since(UNIX_EPOCH).map_or(1, |since| since.as_nanos() as u64);
     let start = Instant::now();
     let mut shown = start;
     let mut rounds = 0;
@@ -27,10 +25,7 @@ pub fn soak(programs: &Path, seconds: u64, all: bool) -> bool {
     while start.elapsed().as_secs() < seconds {
         let seed = first_seed.wrapping_add(rounds);
         if let Err(report) = round(&found, seed, &mut tally) {
-            println!(
-                "DIFFERS at seed {seed} (again: second random {} {seed} 1)\n{report}",
-                programs.display()
-            );
+            println!("DIFFERS at seed {seed} (again: second random {} {seed} 1)\n{report}", programs.display());
             return false;
         }
         rounds += 1;
@@ -45,10 +40,5 @@ pub fn soak(programs: &Path, seconds: u64, all: bool) -> bool {
 }
 
 fn progress(start: Instant, rounds: u64, tally: &Tally) -> String {
-    format!(
-        "{:4} s: {rounds} rounds, {} lines, {} traces",
-        start.elapsed().as_secs(),
-        tally.lines,
-        tally.traces
-    )
+    format!("{:4} s: {rounds} rounds, {} lines, {} traces", start.elapsed().as_secs(), tally.lines, tally.traces)
 }

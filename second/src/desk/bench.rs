@@ -19,10 +19,7 @@ pub struct Bench {
 impl Bench {
     /// As `make 0` with no memory.
     pub fn new() -> Bench {
-        Bench {
-            board: Board::make(0).expect("W = 0 is not above 15"),
-            memory: Vec::new(),
-        }
+        Bench { board: Board::make(0).expect("W = 0 is not above 15"), memory: Vec::new() }
     }
 
     pub fn answer_words(&mut self, words: &[&[u8]]) -> Option<String> {
@@ -30,10 +27,7 @@ impl Bench {
             [b"make", w] => self.make(number(w)?),
             [b"memory", n] => self.lend(number(n)?),
             [b"bytes", a, hex] => self.put(number(a)?, &bytes(hex)?),
-            [b"event", pc] => self.event(Event {
-                pc: number(pc)?,
-                access: None,
-            }),
+            [b"event", pc] => self.event(Event { pc: number(pc)?, access: None }),
             [b"event", pc, address, attribute, data] => self.event(Event {
                 pc: number(pc)?,
                 access: Some(Access {
@@ -44,11 +38,7 @@ impl Bench {
             }),
             [b"breakpoint"] => {
                 let answer = self.board.breakpoint();
-                Some(format!(
-                    "breakpoint halted {} interrupt {}",
-                    u8::from(answer.halted),
-                    u8::from(answer.interrupt)
-                ))
+                Some(format!("breakpoint halted {} interrupt {}", u8::from(answer.halted), u8::from(answer.interrupt)))
             }
             [b"peek", a, n] => self.peek(number(a)?, number(n)?),
             [b"state"] => Some(self.state()),
@@ -116,9 +106,7 @@ impl Bench {
 
     /// All that the board holds; nothing is read or cleared by it.
     fn state(&self) -> String {
-        const CONTROL_NAMES: [&str; 10] = [
-            "cacr", "acr0", "acr1", "vbr", "macsr", "mask", "acc", "sr", "pc", "rambar",
-        ];
+        const CONTROL_NAMES: [&str; 10] = ["cacr", "acr0", "acr1", "vbr", "macsr", "mask", "acc", "sr", "pc", "rambar"];
         let board = &self.board;
         let mut fields = vec![
             format!("w={:X}", board.wait),

@@ -29,40 +29,21 @@ impl Program for Pod {
 pub fn parse_request(words: &[&[u8]]) -> Option<Request> {
     Some(match words {
         [b"rdreg", r] => Request::ReadRegister { register: number(r)? },
-        [b"wdreg", r, v] => Request::WriteRegister {
-            register: number(r)?,
-            value: number(v)?,
-        },
+        [b"wdreg", r, v] => Request::WriteRegister { register: number(r)?, value: number(v)? },
         [b"go"] => Request::Go,
         [b"nop"] => Request::Nop,
         [b"sync_pc"] => Request::SyncPc,
         [b"rcreg", rc] => Request::ReadControl { rc: number(rc)? },
-        [b"wcreg", rc, v] => Request::WriteControl {
-            rc: number(rc)?,
-            value: number(v)?,
-        },
+        [b"wcreg", rc, v] => Request::WriteControl { rc: number(rc)?, value: number(v)? },
         [b"rdmreg", n] => Request::ReadDebug { n: number(n)? },
-        [b"wdmreg", n, v] => Request::WriteDebug {
-            n: number(n)?,
-            value: number(v)?,
-        },
+        [b"wdmreg", n, v] => Request::WriteDebug { n: number(n)?, value: number(v)? },
         [name, fields @ ..] => {
             let (stem, size) = sized(name)?;
             match (stem, fields) {
-                (b"read", [a]) => Request::Read {
-                    size,
-                    address: number(a)?,
-                },
-                (b"write", [a, v]) => Request::Write {
-                    size,
-                    address: number(a)?,
-                    value: number(v)?,
-                },
+                (b"read", [a]) => Request::Read { size, address: number(a)? },
+                (b"write", [a, v]) => Request::Write { size, address: number(a)?, value: number(v)? },
                 (b"dump", []) => Request::Dump { size },
-                (b"fill", [v]) => Request::Fill {
-                    size,
-                    value: number(v)?,
-                },
+                (b"fill", [v]) => Request::Fill { size, value: number(v)? },
                 _ => return None,
             }
         }

@@ -1,6 +1,7 @@
 //! Random scripts and traces, well aimed: the same seed gives the same script for ever.
 
 mod aim;
+mod breakpoints;
 mod noise;
 mod pod;
 mod rng;

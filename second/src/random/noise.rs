@@ -1,6 +1,7 @@
 //! Lines that are none of the language, or only just.
 
-use super::aim::{address, event, hex, memory_length};
+use super::aim::{address, hex, memory_length};
+use super::breakpoints::event;
 use super::Rng;
 use crate::desk::Bench;
 use crate::line::LINE_LIMIT;
@@ -12,9 +13,7 @@ pub fn noise(rng: &mut Rng, line: &[u8]) -> Vec<u8> {
         1 => b"# a comment".to_vec(),
         2 => [b"#".as_slice(), line].concat(),
         3 => b" ".to_vec(),
-        4 => rng
-            .pick::<&[u8]>(&[b"\r", b"\t", b"\0", b"  ", b"unclear", b"help", b"\xFF"])
-            .to_vec(),
+        4 => rng.pick::<&[u8]>(&[b"\r", b"\t", b"\0", b"  ", b"unclear", b"help", b"\xFF"]).to_vec(),
         5 => [b" ".as_slice(), line].concat(),
         6 => [line, b" "].concat(),
         7 => [line, b"\r"].concat(),
@@ -24,11 +23,7 @@ pub fn noise(rng: &mut Rng, line: &[u8]) -> Vec<u8> {
         11 => replace_first_space(line, b""),
         12 => line.to_ascii_uppercase(),
         13 => drop_last_word(line),
-        14 => [
-            line,
-            rng.pick::<&[u8]>(&[b"00000000", b"FFFFFFFF", b"F", b"G", b"-", b"\xC3\xA9"]),
-        ]
-        .concat(),
+        14 => [line, rng.pick::<&[u8]>(&[b"00000000", b"FFFFFFFF", b"F", b"G", b"-", b"\xC3\xA9"])].concat(),
         15 => replace_last_word(
             line,
             rng.pick::<&[u8]>(&[b"100000000", b"FFFFFFFF", b"100", b"0x1", b"", b"1FFFF", b"20000"]),
@@ -39,10 +34,7 @@ pub fn noise(rng: &mut Rng, line: &[u8]) -> Vec<u8> {
         19 => vec![b'x'; LINE_LIMIT + rng.below(8000) as usize],
         20 => spoil_byte(rng, line),
         21 => remove_byte(rng, line),
-        22 => (0..rng.between(1, 20))
-            .map(|_| rng.word() as u8)
-            .filter(|&byte| byte != b'\n')
-            .collect(),
+        22 => (0..rng.between(1, 20)).map(|_| rng.word() as u8).filter(|&byte| byte != b'\n').collect(),
         _ => {
             let mut line = stretch_to(line, line.len() + 1 + rng.below(20) as usize);
             line.make_ascii_lowercase();
@@ -123,7 +115,7 @@ pub fn bench_line(rng: &mut Rng, bench: &Bench) -> String {
         10..=24 => {
             let (a, n) = match rng.below(8) {
                 0 => (address(rng, length), rng.pick(&[0, 1, 0x3FF, 0x400, 0x401])),
-                1..=3 => (0, length.min(0x20).max(1)),
+                1..=3 => (0, length.clamp(1, 0x20)),
                 4..=5 => (length.saturating_sub(0x10), length.clamp(1, 0x10)),
                 _ => (address(rng, length), rng.between(1, 8)),
             };

@@ -1,6 +1,7 @@
 //! Random scripts for `stand_in`.
 
-use super::aim::{breakpoint_setup, command, event, is_armed, legal_word, memory_length, odd_word};
+use super::aim::{command, legal_word, memory_length, odd_word};
+use super::breakpoints::{breakpoint_setup, event, is_armed};
 use super::noise::{bench_line, noise};
 use super::Rng;
 use crate::desk::StandIn;
@@ -54,11 +55,8 @@ fn step(rng: &mut Rng, writer: &mut Writer<StandIn>) {
             writer.say(line);
         }
         90..=93 => {
-            let line = if rng.percent(50) {
-                bench_line(rng, writer.bench())
-            } else {
-                format!("packet {:X}", legal_word(rng))
-            };
+            let line =
+                if rng.percent(50) { bench_line(rng, writer.bench()) } else { format!("packet {:X}", legal_word(rng)) };
             writer.say(noise(rng, line.as_bytes()));
         }
         94..=96 => writer.packet(rng.below(0x2_0000)),

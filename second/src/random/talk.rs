@@ -1,6 +1,7 @@
 //! Random scripts for `talk`.
 
-use super::aim::{debug_value, event, is_armed, memory_length};
+use super::aim::memory_length;
+use super::breakpoints::{debug_value, event, is_armed};
 use super::noise::{bench_line, noise};
 use super::pod::request;
 use super::Rng;
@@ -31,7 +32,9 @@ fn step(rng: &mut Rng, writer: &mut Writer<Talk>) {
     let length = writer.memory_length();
     match rng.below(99) {
         0..=39 => {
-            let line = request(rng, length, 24);
+            // Ground 13 comes before ground 3.
+            let wild = if length > 65_536 { 2 } else { 24 };
+            let line = request(rng, length, wild);
             writer.say(line);
         }
         40..=54 => {

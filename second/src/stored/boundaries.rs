@@ -48,9 +48,7 @@ fn boundaries() -> Vec<Vec<u8>> {
     for length in LENGTHS {
         for size in Size::ALL {
             let field = u32::from(size.field());
-            s.comment(&format!(
-                "{length} bytes of memory: READ and WRITE {size:?} about its end"
-            ));
+            s.comment(&format!("{length} bytes of memory: READ and WRITE {size:?} about its end"));
             s.say(format!("make {:X}", length % 2));
             s.say(format!("memory {length:X}"));
             mark_end(&mut s);

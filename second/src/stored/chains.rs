@@ -6,10 +6,7 @@ use crate::desk::StandIn;
 use crate::script::Writer;
 
 pub fn all() -> Vec<Stored> {
-    vec![
-        Stored::script("stand_in", "chains", &chains()),
-        Stored::script("stand_in", "chains_sizes", &sizes()),
-    ]
+    vec![Stored::script("stand_in", "chains", &chains()), Stored::script("stand_in", "chains_sizes", &sizes())]
 }
 
 fn fresh(s: &mut Writer<StandIn>, w: u32) {
@@ -79,26 +76,15 @@ fn chains() -> Vec<Vec<u8>> {
     }
     s.comment("A NOP alone leaves the chain: no packet between that is a command word");
     fresh(&mut s, 0);
-    s.packets(&[
-        0x1900, 0, 0, 0x1D00, 0x1D00, 0x1D00, 0x1D40, 0x1D80, 0x1FFFF, 0x1D00, 0x1D00, 0,
-    ]);
+    s.packets(&[0x1900, 0, 0, 0x1D00, 0x1D00, 0x1D00, 0x1D40, 0x1D80, 0x1FFFF, 0x1D00, 0x1D00, 0]);
     s.say("state");
     s.comment("Events, halts, the breakpoint input and refusals leave the chain");
     fresh(&mut s, 1);
     s.command(&[0x0C00]);
     s.command(&[0x1940, 0, 2]);
     for line in [
-        "event 1000",
-        "event 1001",
-        "event 1000 0 60 0",
-        "breakpoint",
-        "breakpoint",
-        "event 1000",
-        "packet 20000",
-        "make 10",
-        "memory 10001",
-        "packet 1D00",
-        "memory 20",
+        "event 1000", "event 1001", "event 1000 0 60 0", "breakpoint", "breakpoint", "event 1000", "packet 20000",
+        "make 10", "memory 10001", "packet 1D00", "memory 20",
     ] {
         s.say(line);
         s.say("state");
@@ -133,17 +119,13 @@ fn sizes() -> Vec<Vec<u8>> {
         for first in Size::ALL {
             for second in Size::ALL {
                 for address in [0, 1, 2, 3, 5] {
-                    s.comment(&format!(
-                        "READ {begin:?} at {address}, DUMP {first:?}, DUMP {second:?}, DUMP Byte"
-                    ));
+                    s.comment(&format!("READ {begin:?} at {address}, DUMP {first:?}, DUMP {second:?}, DUMP Byte"));
                     fresh(&mut s, 0);
                     s.command(&[0x1900 + u32::from(begin.field()), 0, address]);
                     for size in [first, second, Size::Byte] {
                         s.command(&[0x1D00 + u32::from(size.field())]);
                     }
-                    s.comment(&format!(
-                        "WRITE {begin:?} at {address}, FILL {first:?}, FILL {second:?}, FILL Byte"
-                    ));
+                    s.comment(&format!("WRITE {begin:?} at {address}, FILL {first:?}, FILL {second:?}, FILL Byte"));
                     let long = |size: Size, words: &mut Vec<u32>, value: u32| {
                         if size == Size::Long {
                             words.push(value ^ 0x0F0F);

@@ -6,9 +6,7 @@ use crate::desk::StandIn;
 use crate::script::Writer;
 
 pub fn all() -> Vec<Stored> {
-    (0..16)
-        .map(|w| Stored::script("stand_in", format!("commands_w{w:X}"), &commands(w)))
-        .collect()
+    (0..16).map(|w| Stored::script("stand_in", format!("commands_w{w:X}"), &commands(w))).collect()
 }
 
 fn commands(w: u32) -> Vec<Vec<u8>> {
@@ -49,16 +47,9 @@ fn control_registers(s: &mut Writer<StandIn>) {
     }
     s.say("state");
     s.comment("RCREG and WCREG of registers that are not listed, and with a first operand word not zero");
-    for (first, rc) in [
-        (0, 0x000),
-        (0, 0x003),
-        (0, 0x802),
-        (0, 0xC05),
-        (0, 0xFFF),
-        (0, 0x1801),
-        (1, 0x801),
-        (0x8000, 0x002),
-    ] {
+    for (first, rc) in
+        [(0, 0x000), (0, 0x003), (0, 0x802), (0, 0xC05), (0, 0xFFF), (0, 0x1801), (1, 0x801), (0x8000, 0x002)]
+    {
         s.command(&[0x2980, first, rc]);
         s.command(&[0x2880, first, rc, 0x1234, 0x5678]);
     }

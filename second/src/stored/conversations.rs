@@ -6,9 +6,8 @@ use crate::desk::Talk;
 use crate::script::Writer;
 
 pub fn all() -> Vec<Stored> {
-    let mut stored: Vec<Stored> = (0..16)
-        .map(|w| Stored::script("talk", format!("requests_w{w:X}"), &requests(w)))
-        .collect();
+    let mut stored: Vec<Stored> =
+        (0..16).map(|w| Stored::script("talk", format!("requests_w{w:X}"), &requests(w))).collect();
     stored.push(Stored::script("talk", "stray_words", &stray_words()));
     stored.push(Stored::script("talk", "lessons", &lessons()));
     stored.push(Stored::script("talk", "refusals", &refusals()));
@@ -64,20 +63,8 @@ fn requests(w: u32) -> Vec<Vec<u8>> {
     s.say("state");
     s.comment("Chains that are none");
     for line in [
-        "dump.b",
-        "fill.b 0",
-        "fill.w 0",
-        "fill.l 0",
-        "read.b 0",
-        "fill.b 0",
-        "dump.b",
-        "write.b 0 0",
-        "dump.b",
-        "fill.b 0",
-        "sync_pc",
-        "read.b 0",
-        "sync_pc",
-        "dump.b",
+        "dump.b", "fill.b 0", "fill.w 0", "fill.l 0", "read.b 0", "fill.b 0", "dump.b", "write.b 0 0", "dump.b",
+        "fill.b 0", "sync_pc", "read.b 0", "sync_pc", "dump.b",
     ] {
         s.say(line);
     }
@@ -85,21 +72,8 @@ fn requests(w: u32) -> Vec<Vec<u8>> {
     s.say("wdmreg 0 0");
     s.say("go");
     for line in [
-        "go",
-        "rdreg 0",
-        "wdreg 0 1",
-        "rcreg 801",
-        "wcreg 801 1",
-        "read.l 0",
-        "dump.l",
-        "write.l 0 1",
-        "fill.l 2",
-        "rdmreg 0",
-        "event 1000",
-        "breakpoint",
-        "rdreg 0",
-        "rdmreg 0",
-        "state",
+        "go", "rdreg 0", "wdreg 0 1", "rcreg 801", "wcreg 801 1", "read.l 0", "dump.l", "write.l 0 1", "fill.l 2",
+        "rdmreg 0", "event 1000", "breakpoint", "rdreg 0", "rdmreg 0", "state",
     ] {
         s.say(line);
     }
@@ -119,11 +93,7 @@ fn stray_words() -> Vec<Vec<u8>> {
             ));
             fresh(&mut s, w);
             for request in ["fill.w", "fill.l"] {
-                let value = if request == "fill.l" {
-                    stray << 16 | 0x1980
-                } else {
-                    stray
-                };
+                let value = if request == "fill.l" { stray << 16 | 0x1980 } else { stray };
                 s.say(format!("{request} {value:X}"));
                 s.say("read.b 0");
                 s.say("dump.w");
@@ -158,43 +128,20 @@ fn stray_words() -> Vec<Vec<u8>> {
 fn lessons() -> Vec<Vec<u8>> {
     let mut s = Writer::<Talk>::new();
     for (title, lines) in [
-        (
-            "P1 and P2",
-            &[
-                "make 1",
-                "memory 10",
-                "bytes 0 000102030405060708090A0B0C0D0E0F",
-                "read.l 4",
-                "dump.b",
-            ][..],
-        ),
+        ("P1 and P2", &["make 1", "memory 10", "bytes 0 000102030405060708090A0B0C0D0E0F", "read.l 4", "dump.b"][..]),
         ("P3", &["make 0", "rdmreg 0", "rdmreg 0"]),
         (
             "P4",
             &[
-                "make 0",
-                "wdmreg 8 1000",
-                "wdmreg 9 F",
-                "wdmreg 7 40002002",
-                "go",
-                "event 1010",
-                "event 100E",
+                "make 0", "wdmreg 8 1000", "wdmreg 9 F", "wdmreg 7 40002002", "go", "event 1010", "event 100E",
                 "rdmreg 0",
             ],
         ),
         (
             "P5",
             &[
-                "make 0",
-                "wdmreg 6 5",
-                "wdmreg 8 2000",
-                "wdmreg D 3000",
-                "wdmreg 7 20042002",
-                "go",
-                "event 2000 3000 5 0",
-                "state",
-                "event 2000 3000 5 0",
-                "state",
+                "make 0", "wdmreg 6 5", "wdmreg 8 2000", "wdmreg D 3000", "wdmreg 7 20042002", "go",
+                "event 2000 3000 5 0", "state", "event 2000 3000 5 0", "state",
             ],
         ),
         ("P6", &["memory 0", "make 0", "read.b 0"]),
@@ -202,50 +149,22 @@ fn lessons() -> Vec<Vec<u8>> {
         (
             "A slot table is read",
             &[
-                "memory 40",
-                "make 3",
-                "bytes 0 00000010000000200000003000000000",
-                "read.l 0",
-                "dump.l",
-                "dump.l",
-                "dump.l",
-                "nop",
-                "dump.l",
+                "memory 40", "make 3", "bytes 0 00000010000000200000003000000000", "read.l 0", "dump.l", "dump.l",
+                "dump.l", "nop", "dump.l",
             ],
         ),
         (
             "A block is filled and looked at",
             &[
-                "write.l 20 DEADBEEF",
-                "fill.l CAFEBABE",
-                "fill.w 1234",
-                "fill.b 56",
-                "peek 20 10",
-                "read.l 20",
-                "dump.l",
-                "dump.l",
+                "write.l 20 DEADBEEF", "fill.l CAFEBABE", "fill.w 1234", "fill.b 56", "peek 20 10", "read.l 20",
+                "dump.l", "dump.l",
             ],
         ),
         (
             "A program is stepped",
             &[
-                "make 2",
-                "wcreg 80F 1000",
-                "wdmreg 0 10",
-                "go",
-                "event 1000",
-                "rdreg 0",
-                "go",
-                "event 1002",
-                "sync_pc",
-                "go",
-                "event 1004",
-                "rdmreg 0",
-                "wdmreg 0 0",
-                "go",
-                "event 1006",
-                "breakpoint",
-                "rdmreg 0",
+                "make 2", "wcreg 80F 1000", "wdmreg 0 10", "go", "event 1000", "rdreg 0", "go", "event 1002",
+                "sync_pc", "go", "event 1004", "rdmreg 0", "wdmreg 0 0", "go", "event 1006", "breakpoint", "rdmreg 0",
             ],
         ),
     ] {
@@ -260,32 +179,12 @@ fn lessons() -> Vec<Vec<u8>> {
 fn refusals() -> Vec<Vec<u8>> {
     let mut s = Writer::<Talk>::new();
     let good = [
-        "rdreg 0",
-        "wdreg 0 1",
-        "read.b 0",
-        "write.l 0 1",
-        "dump.b",
-        "fill.b 1",
-        "go",
-        "nop",
-        "sync_pc",
-        "rcreg 801",
-        "wcreg 801 1",
-        "rdmreg 0",
-        "wdmreg 8 1",
+        "rdreg 0", "wdreg 0 1", "read.b 0", "write.l 0 1", "dump.b", "fill.b 1", "go", "nop", "sync_pc", "rcreg 801",
+        "wcreg 801 1", "rdmreg 0", "wdmreg 8 1",
     ];
     let wild = [
-        "rdreg 10",
-        "wdreg 10 1",
-        "write.b 0 100",
-        "write.w 0 10000",
-        "fill.b 100",
-        "fill.w 10000",
-        "rcreg 1000",
-        "wcreg 1000 1",
-        "rdmreg 20",
-        "wdmreg 20 1",
-        "rdreg FFFFFFFF",
+        "rdreg 10", "wdreg 10 1", "write.b 0 100", "write.w 0 10000", "fill.b 100", "fill.w 10000", "rcreg 1000",
+        "wcreg 1000 1", "rdmreg 20", "wdmreg 20 1", "rdreg FFFFFFFF",
     ];
     s.comment("Ground 13: nothing is sent");
     fresh(&mut s, 1);
@@ -315,17 +214,9 @@ fn refusals() -> Vec<Vec<u8>> {
     s.say("nop");
     s.say("state");
     s.comment("Grounds 2, 4, 5, 6");
-    for line in [
-        "make 10",
-        "make F",
-        "event 0",
-        "go",
-        "event 1",
-        "event 0 0 60 0",
-        "event 1 0 60 0",
-        "event 0 0 0 0",
-        "state",
-    ] {
+    for line in
+        ["make 10", "make F", "event 0", "go", "event 1", "event 0 0 60 0", "event 1 0 60 0", "event 0 0 0 0", "state"]
+    {
         s.say(line);
     }
     s.lines

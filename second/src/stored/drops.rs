@@ -5,10 +5,7 @@ use crate::desk::StandIn;
 use crate::script::Writer;
 
 pub fn all() -> Vec<Stored> {
-    [0, 1, 3]
-        .into_iter()
-        .map(|w| Stored::script("stand_in", format!("drops_w{w}"), &drops(w)))
-        .collect()
+    [0, 1, 3].into_iter().map(|w| Stored::script("stand_in", format!("drops_w{w}"), &drops(w))).collect()
 }
 
 /// Each command with its operands, and how to make it legal first.
@@ -59,9 +56,7 @@ fn drops(w: u32) -> Vec<Vec<u8>> {
             s.say("peek 0 8");
         }
         s.say("state");
-        s.comment(&format!(
-            "{name} with every data bit beside C in an ignored packet; W = {w}"
-        ));
+        s.comment(&format!("{name} with every data bit beside C in an ignored packet; W = {w}"));
         s.say(format!("make {w:X}"));
         s.say("memory 10");
         if !before.is_empty() {

@@ -36,15 +36,7 @@ fn csr() -> Vec<Vec<u8>> {
         }
     }
     s.comment("TDR: BSTAT is 1 with level 1's EBL, else 0; CSR read at 0 and 1 leaves it");
-    for tdr in [
-        0u32,
-        0x2000,
-        0x2000_0000,
-        0x2000_2000,
-        0xFFFF_FFFF,
-        0xFFFF_DFFF,
-        0xDFFF_FFFF,
-    ] {
+    for tdr in [0u32, 0x2000, 0x2000_0000, 0x2000_2000, 0xFFFF_FFFF, 0xFFFF_DFFF, 0xDFFF_FFFF] {
         s.debug(0x07, tdr);
         s.say("state");
         s.command(&[0x2D80]);
@@ -56,9 +48,7 @@ fn csr() -> Vec<Vec<u8>> {
 fn halts() -> Vec<Vec<u8>> {
     let mut s = Writer::<StandIn>::new();
     for csr in [0, 0x10, 0x4_0000, 0x4_0010] {
-        s.comment(&format!(
-            "CSR {csr:X}: the breakpoint input while halted and while running"
-        ));
+        s.comment(&format!("CSR {csr:X}: the breakpoint input while halted and while running"));
         s.say("make 1");
         s.debug(0x00, csr);
         s.say("breakpoint");
@@ -73,9 +63,7 @@ fn halts() -> Vec<Vec<u8>> {
         s.say("state");
         s.command(&[0x2D80]);
         for response in 0..4 {
-            s.comment(&format!(
-                "CSR {csr:X}, response {response}: an event that fires, one that does not, SYNC_PC"
-            ));
+            s.comment(&format!("CSR {csr:X}, response {response}: an event that fires, one that does not, SYNC_PC"));
             for trigger in [0x2002_u32, 0x2002_2002] {
                 s.say("make 0");
                 s.debug(0x00, csr);

@@ -24,13 +24,7 @@ const T_2: u32 = 1 << 15;
 /// A running board with PBR 1000, ABLR 2000, ABHR 2010, DBR 11223344, AATR 0005.
 fn running(s: &mut Writer<StandIn>) {
     s.say("make 0");
-    for (n, value) in [
-        (0x08, 0x1000),
-        (0x0D, 0x2000),
-        (0x0C, 0x2010),
-        (0x0E, 0x1122_3344),
-        (0x06, 0x0005),
-    ] {
+    for (n, value) in [(0x08, 0x1000), (0x0D, 0x2000), (0x0C, 0x2010), (0x0E, 0x1122_3344), (0x06, 0x0005)] {
         s.packets(&[0x2C80 + n, value >> 16, value & 0xFFFF]);
     }
     s.packets(&[0x0C00, 0]);
@@ -70,13 +64,7 @@ fn groups() -> Vec<Vec<u8>> {
                 let tdr = (EBL | pc_bits | address_bits << 2) << 16 | EBL | EPC | t;
                 s.comment(&format!("Level 2, TDR {tdr:X}: PC and address, agreeing and not"));
                 for event in [
-                    "1000",
-                    "1002",
-                    "1000 2000 5 0",
-                    "1002 2000 5 0",
-                    "1000 2011 5 0",
-                    "1002 2011 5 0",
-                    "1000 2000 4 0",
+                    "1000", "1002", "1000 2000 5 0", "1002 2000 5 0", "1000 2011 5 0", "1002 2011 5 0", "1000 2000 4 0",
                 ] {
                     arm(&mut s, tdr);
                     s.say("event 1000");
@@ -98,9 +86,9 @@ fn groups() -> Vec<Vec<u8>> {
         s.debug(0x0D, low);
         s.debug(0x0C, high);
         for bits in [EAL, EAR, 1 << 4] {
-            for address in [
-                "0", "1", "2000", "2001", "7FFFFFFE", "7FFFFFFF", "80000000", "80000001", "FFFFFFFE", "FFFFFFFF",
-            ] {
+            for address in
+                ["0", "1", "2000", "2001", "7FFFFFFE", "7FFFFFFF", "80000000", "80000001", "FFFFFFFE", "FFFFFFFF"]
+            {
                 arm(&mut s, EBL | bits);
                 s.say(format!("event 0 {address} 5 0"));
             }
@@ -118,10 +106,7 @@ fn data() -> Vec<Vec<u8>> {
     for bit in (6..=12).rev() {
         for inverted in [0, DI] {
             for (name, attribute) in sizes {
-                s.comment(&format!(
-                    "Comparator bit {bit}, DI {}, {name} at each address",
-                    u8::from(inverted != 0)
-                ));
+                s.comment(&format!("Comparator bit {bit}, DI {}, {name} at each address", u8::from(inverted != 0)));
                 for offset in 0..4 {
                     for data in [0x1122_3344_u32, 0x1122_3300, 0x0022_3344, 0x1122_FF44, 0x11FF_3344, 0] {
                         arm(&mut s, EBL | EAR | 1 << bit | inverted);
@@ -153,14 +138,9 @@ fn data() -> Vec<Vec<u8>> {
         }
     }
     s.comment("DI without a comparator, and comparators without an address bit");
-    for tdr in [
-        EBL | EAL | DI,
-        EBL | DI,
-        EBL | 0x1FC0,
-        EBL | 0x1FC0 | EPC,
-        EBL | 0x1FC0 | EPC | T_1,
-        EBL | 0x1FE0 | EPC,
-    ] {
+    for tdr in
+        [EBL | EAL | DI, EBL | DI, EBL | 0x1FC0, EBL | 0x1FC0 | EPC, EBL | 0x1FC0 | EPC | T_1, EBL | 0x1FE0 | EPC]
+    {
         for event in ["1000", "1002", "1000 2000 5 11223344", "1002 2000 5 0", "1000 2000 5 0"] {
             arm(&mut s, tdr);
             s.say(format!("event {event}"));
@@ -214,15 +194,7 @@ fn masks() -> Vec<Vec<u8>> {
         }
     }
     s.comment("A comparator whose lanes are all masked always agrees");
-    for mask in [
-        0xFFFF_FFFFu32,
-        0xFFFF,
-        0xFFFF_0000,
-        0xFF,
-        0xFF00,
-        0xFF_0000,
-        0xFF00_0000,
-    ] {
+    for mask in [0xFFFF_FFFFu32, 0xFFFF, 0xFFFF_0000, 0xFF, 0xFF00, 0xFF_0000, 0xFF00_0000] {
         s.debug(0x0F, mask);
         for comparator in 6..=12 {
             for inverted in [0, DI] {
@@ -240,9 +212,7 @@ fn levels() -> Vec<Vec<u8>> {
     for response in 0..4 {
         for enabled in 0..4 {
             let tdr = response << 30 | (enabled >> 1) << 29 | EPC << 16 | (enabled & 1) << 13 | EPC;
-            s.comment(&format!(
-                "TDR {tdr:X}: events until nothing more fires, CSR after each, then armed again"
-            ));
+            s.comment(&format!("TDR {tdr:X}: events until nothing more fires, CSR after each, then armed again"));
             running(&mut s);
             arm(&mut s, tdr);
             s.say("state");
@@ -269,13 +239,9 @@ fn levels() -> Vec<Vec<u8>> {
     s.comment("Level 1 by PC, then level 2 by address and data; one event fires one level at most");
     running(&mut s);
     arm(&mut s, 0x4000_0000 | (EBL | EAL | 1 << 12) << 16 | EBL | EPC);
-    for event in [
-        "1002 2000 5 11223344",
-        "1000 2000 5 11223344",
-        "1000",
-        "1000 2000 5 11223345",
-        "1002 2000 5 11223344",
-    ] {
+    for event in
+        ["1002 2000 5 11223344", "1000 2000 5 11223344", "1000", "1000 2000 5 11223345", "1002 2000 5 11223344"]
+    {
         s.say(format!("event {event}"));
         s.say("state");
     }

@@ -16,9 +16,7 @@ fn words(halted: bool) -> Vec<Vec<u8>> {
     let mut s = Writer::<StandIn>::new();
     s.say("memory 10");
     s.say("bytes 0 000102030405060708090A0B0C0D0E0F");
-    let edges: [u32; 13] = [
-        0x00, 0x01, 0x02, 0x40, 0x41, 0x7F, 0x80, 0x8F, 0x90, 0x9F, 0xA0, 0xC0, 0xFF,
-    ];
+    let edges: [u32; 13] = [0x00, 0x01, 0x02, 0x40, 0x41, 0x7F, 0x80, 0x8F, 0x90, 0x9F, 0xA0, 0xC0, 0xFF];
     let state = if halted { "halted" } else { "running" };
     for upper in 0..0x100 {
         s.comment(&format!("Words {:02X}xx, {state}", upper));

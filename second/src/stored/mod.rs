@@ -25,11 +25,7 @@ pub struct Stored {
 
 impl Stored {
     fn new(program: &'static str, name: impl Into<String>, input: Vec<u8>) -> Stored {
-        Stored {
-            program,
-            name: name.into(),
-            input,
-        }
+        Stored { program, name: name.into(), input }
     }
 
     fn script(program: &'static str, name: impl Into<String>, lines: &[Vec<u8>]) -> Stored {

@@ -11,20 +11,8 @@ pub fn all() -> Vec<Stored> {
     ]
 }
 
-const VALUES: [u32; 12] = [
-    0,
-    1,
-    0xFF,
-    0x100,
-    0x7FFF,
-    0xFFFF,
-    0x1_0000,
-    0x1234_5678,
-    0x7FFF_FFFF,
-    0x8000_0000,
-    0xFFFF_0000,
-    0xFFFF_FFFF,
-];
+const VALUES: [u32; 12] =
+    [0, 1, 0xFF, 0x100, 0x7FFF, 0xFFFF, 0x1_0000, 0x1234_5678, 0x7FFF_FFFF, 0x8000_0000, 0xFFFF_0000, 0xFFFF_FFFF];
 
 fn builds() -> Vec<Vec<u8>> {
     let mut lines = Vec::new();
@@ -43,9 +31,7 @@ fn builds() -> Vec<Vec<u8>> {
         say(format!("build wdmreg 7 {value:X}"));
     }
     for size in ["b", "w", "l"] {
-        say(format!(
-            "# read.{size}, write.{size}, dump.{size}, fill.{size}: addresses and data"
-        ));
+        say(format!("# read.{size}, write.{size}, dump.{size}, fill.{size}: addresses and data"));
         say(format!("build dump.{size}"));
         for value in VALUES {
             say(format!("build read.{size} {value:X}"));
@@ -56,21 +42,9 @@ fn builds() -> Vec<Vec<u8>> {
         }
     }
     say("# rcreg and wcreg: Rc 0 to FFF, listed or not, and beyond".to_string());
-    for rc in (0u32..=16).chain([
-        0x801,
-        0x804,
-        0x805,
-        0x806,
-        0x80E,
-        0x80F,
-        0xC04,
-        0xFFE,
-        0xFFF,
-        0x1000,
-        0x1801,
-        0x1_0000,
-        0xFFFF_FFFF,
-    ]) {
+    for rc in (0u32..=16)
+        .chain([0x801, 0x804, 0x805, 0x806, 0x80E, 0x80F, 0xC04, 0xFFE, 0xFFF, 0x1000, 0x1801, 0x1_0000, 0xFFFF_FFFF])
+    {
         say(format!("build rcreg {rc:X}"));
         say(format!("build wcreg {rc:X} 12345678"));
     }
@@ -87,42 +61,14 @@ fn builds() -> Vec<Vec<u8>> {
 }
 
 const REQUESTS: [&str; 21] = [
-    "rdreg 1",
-    "wdreg 1 2",
-    "read.b 0",
-    "read.w 0",
-    "read.l 0",
-    "write.b 0 1",
-    "write.w 0 1",
-    "write.l 0 1",
-    "dump.b",
-    "dump.w",
-    "dump.l",
-    "fill.b 1",
-    "fill.w 1",
-    "fill.l 1",
-    "go",
-    "nop",
-    "sync_pc",
-    "rcreg 801",
-    "wcreg 801 1",
-    "rdmreg 0",
-    "wdmreg 8 1",
+    "rdreg 1", "wdreg 1 2", "read.b 0", "read.w 0", "read.l 0", "write.b 0 1", "write.w 0 1", "write.l 0 1", "dump.b",
+    "dump.w", "dump.l", "fill.b 1", "fill.w 1", "fill.l 1", "go", "nop", "sync_pc", "rcreg 801", "wcreg 801 1",
+    "rdmreg 0", "wdmreg 8 1",
 ];
 
 const OUT_OF_RANGE: [&str; 12] = [
-    "rdreg 10",
-    "wdreg 10 2",
-    "write.b 0 100",
-    "write.w 0 10000",
-    "fill.b 100",
-    "fill.w 10000",
-    "rcreg 1000",
-    "wcreg 1000 1",
-    "rdmreg 20",
-    "wdmreg 20 1",
-    "rdreg FFFFFFFF",
-    "rdmreg 100",
+    "rdreg 10", "wdreg 10 2", "write.b 0 100", "write.w 0 10000", "fill.b 100", "fill.w 10000", "rcreg 1000",
+    "wcreg 1000 1", "rdmreg 20", "wdmreg 20 1", "rdreg FFFFFFFF", "rdmreg 100",
 ];
 
 const FIRST: [&str; 20] = [
@@ -134,9 +80,7 @@ fn reads() -> Vec<Vec<u8>> {
     let mut lines = Vec::new();
     let mut say = |text: String| lines.push(text.into_bytes());
     for request in REQUESTS {
-        say(format!(
-            "# {request}: no reply, not ready, each first word, each second word, words after the result"
-        ));
+        say(format!("# {request}: no reply, not ready, each first word, each second word, words after the result"));
         say(format!("read {request} :"));
         for n in 1..=17 {
             say(format!("read {request} :{}", " 10000".repeat(n)));
@@ -158,17 +102,7 @@ fn reads() -> Vec<Vec<u8>> {
     }
     for request in OUT_OF_RANGE {
         say(format!("# {request}: ground 13 before all else"));
-        for replies in [
-            "",
-            " FFFF",
-            " 0 0",
-            " 10000",
-            " 10001",
-            " 1FFFF",
-            " 10002",
-            " 20000",
-            " FFFFFFFF",
-        ] {
+        for replies in ["", " FFFF", " 0 0", " 10000", " 10001", " 1FFFF", " 10002", " 20000", " FFFFFFFF"] {
             say(format!("read {request} :{replies}"));
         }
     }

@@ -100,9 +100,7 @@ fn sequences() -> Vec<Vec<u8>> {
             }
             s.say("state");
         }
-        s.comment(&format!(
-            "5.5.3.3.12 RDMREG, W = {w}: completed, read again, illegal register"
-        ));
+        s.comment(&format!("5.5.3.3.12 RDMREG, W = {w}: completed, read again, illegal register"));
         fresh(&mut s, w, &[]);
         s.packets(&[0x2D80, 0, 0x2D80, 0x0C00, 0x2D80, 0, 0x2D81, 0x2D9F, 0]);
         s.say("state");
@@ -111,9 +109,7 @@ fn sequences() -> Vec<Vec<u8>> {
             s.packet(0x2C80 + n);
         }
         s.packet(0);
-        s.comment(&format!(
-            "5.5.3.2 the READ of the sequence diagram, W = {w}: unimplemented word, sent again"
-        ));
+        s.comment(&format!("5.5.3.2 the READ of the sequence diagram, W = {w}: unimplemented word, sent again"));
         fresh(&mut s, w, &[]);
         s.packets(&[0x1988, 0x0000, 0x1980, 0x0000, 0x0008]);
         s.drain();

@@ -4,10 +4,8 @@ use super::Stored;
 use crate::random::{random_trace, Rng};
 
 fn stored(name: &str, cycles: &str) -> Stored {
-    let bytes = cycles
-        .split_whitespace()
-        .map(|byte| u8::from_str_radix(byte, 16).expect("a cycle in hexadecimal"))
-        .collect();
+    let bytes =
+        cycles.split_whitespace().map(|byte| u8::from_str_radix(byte, 16).expect("a cycle in hexadecimal")).collect();
     Stored::new("trace_list", name, bytes)
 }
 
@@ -105,17 +103,9 @@ fn long() -> Vec<Stored> {
         Stored::new("trace_list", "cycles_65537", vec![0; LONGEST + 1]),
         Stored::new("trace_list", "cycles_65537_reserved", longer_reserved),
         Stored::new("trace_list", "cycles_65536_last_item", with(&[(0, 0x10), (last, 0xF0)])),
-        Stored::new(
-            "trace_list",
-            "cycles_65536_last_value",
-            with(&[(last - 8, 0xB0), (last, 0x1F)]),
-        ),
+        Stored::new("trace_list", "cycles_65536_last_value", with(&[(last - 8, 0xB0), (last, 0x1F)])),
         Stored::new("trace_list", "cycles_65536_last_marker", with(&[(last, 0x80)])),
-        Stored::new(
-            "trace_list",
-            "cycles_65536_last_reserved",
-            with(&[(last - 1, 0x80), (last, 0x60)]),
-        ),
+        Stored::new("trace_list", "cycles_65536_last_reserved", with(&[(last - 1, 0x80), (last, 0x60)])),
         Stored::new("trace_list", "cycles_65536_one_run", vec![0xE0; LONGEST]),
         Stored::new("trace_list", "cycles_65536_all_items", vec![0x10; LONGEST]),
     ]

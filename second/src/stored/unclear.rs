@@ -12,11 +12,7 @@ pub fn all() -> Vec<Stored> {
         let last: &[u8] = if program == "pod" { b"build go" } else { b"state" };
         let head = b"# The last line has no line end.\n".to_vec();
         stored.push(Stored::new(program, "no_last_line_end", [head, last.to_vec()].concat()));
-        stored.push(Stored::new(
-            program,
-            "last_line_unclear",
-            [last, b"\n", last, b"\r"].concat(),
-        ));
+        stored.push(Stored::new(program, "last_line_unclear", [last, b"\n", last, b"\r"].concat()));
         stored.push(Stored::new(program, "only_line_ends", b"\n\n\n".to_vec()));
         stored.push(Stored::new(program, "empty", Vec::new()));
     }
@@ -25,51 +21,19 @@ pub fn all() -> Vec<Stored> {
 
 /// Clear lines of each program, to be spoilt.
 fn clear(program: &str) -> Vec<&'static str> {
-    let bench = [
-        "make 0",
-        "memory 20",
-        "bytes 0 0A1B",
-        "event 1000",
-        "event 1000 0 5 0",
-        "breakpoint",
-        "peek 0 2",
-        "state",
-    ];
+    let bench =
+        ["make 0", "memory 20", "bytes 0 0A1B", "event 1000", "event 1000 0 5 0", "breakpoint", "peek 0 2", "state"];
     let requests = [
-        "rdreg 1",
-        "wdreg 1 2",
-        "read.b 0",
-        "read.w 0",
-        "read.l 0",
-        "write.b 0 1",
-        "write.w 0 1",
-        "write.l 0 1",
-        "dump.b",
-        "dump.w",
-        "dump.l",
-        "fill.b 1",
-        "fill.w 1",
-        "fill.l 1",
-        "go",
-        "nop",
-        "sync_pc",
-        "rcreg 801",
-        "wcreg 801 1",
-        "rdmreg 0",
-        "wdmreg 8 1",
+        "rdreg 1", "wdreg 1 2", "read.b 0", "read.w 0", "read.l 0", "write.b 0 1", "write.w 0 1", "write.l 0 1",
+        "dump.b", "dump.w", "dump.l", "fill.b 1", "fill.w 1", "fill.l 1", "go", "nop", "sync_pc", "rcreg 801",
+        "wcreg 801 1", "rdmreg 0", "wdmreg 8 1",
     ];
     match program {
         "stand_in" => [&bench[..], &["packet 0"]].concat(),
         "talk" => [&bench[..], &requests[..]].concat(),
         _ => vec![
-            "build rdreg 1",
-            "build write.l 0 1",
-            "build go",
-            "build dump.b",
-            "read go : FFFF",
-            "read read.l 0 : 1 2",
-            "read rdmreg 0 :",
-            "read wcreg 801 1 : 10000 10001",
+            "build rdreg 1", "build write.l 0 1", "build go", "build dump.b", "read go : FFFF", "read read.l 0 : 1 2",
+            "read rdmreg 0 :", "read wcreg 801 1 : 10000 10001",
         ],
     }
 }
@@ -134,27 +98,10 @@ fn lines(program: &str) -> Vec<Vec<u8>> {
     lines.push([b"#".as_slice(), &[0xFF, 0xFE, 0x80]].concat());
     lines.push([b"#".as_slice(), &[b'-'; LINE_LIMIT]].concat());
     lines.push([b"#".as_slice(), &[b'-'; 2 * LINE_LIMIT]].concat());
-    comment(
-        &mut lines,
-        "Unclear: spaces, control bytes, bytes beyond ASCII, other words",
-    );
-    for text in [
-        " ",
-        "  ",
-        " #",
-        "\r",
-        "\t",
-        "\0",
-        "\x0B",
-        "\x7F",
-        "0",
-        "-",
-        ":",
-        "help",
-        "unclear",
-        "quit",
-        "state state",
-    ] {
+    comment(&mut lines, "Unclear: spaces, control bytes, bytes beyond ASCII, other words");
+    for text in
+        [" ", "  ", " #", "\r", "\t", "\0", "\x0B", "\x7F", "0", "-", ":", "help", "unclear", "quit", "state state"]
+    {
         lines.push(text.as_bytes().to_vec());
     }
     lines.push(vec![0xFF]);
@@ -175,28 +122,11 @@ fn lines(program: &str) -> Vec<Vec<u8>> {
     for byte in (0..=255u8).filter(|&byte| byte != b'\n') {
         lines.push([before.as_bytes(), &[byte]].concat());
     }
-    comment(
-        &mut lines,
-        "Lines of 4,095, 4,096 and 4,097 bytes, and much longer ones",
-    );
+    comment(&mut lines, "Lines of 4,095, 4,096 and 4,097 bytes, and much longer ones");
     let longest: &[&str] = match program {
-        "stand_in" => &[
-            "packet 0",
-            "make 0",
-            "memory 20",
-            "event 1000",
-            "peek 0 1",
-            "event 0 0 0 0",
-        ],
+        "stand_in" => &["packet 0", "make 0", "memory 20", "event 1000", "peek 0 1", "event 0 0 0 0"],
         "pod" => &["build rdreg 1", "build rdreg 10", "read go : FFFF", "read rdreg 0 : 0"],
-        _ => &[
-            "make 0",
-            "memory 20",
-            "rdreg 1",
-            "rdreg 10",
-            "write.b 0 1",
-            "wdmreg 8 1",
-        ],
+        _ => &["make 0", "memory 20", "rdreg 1", "rdreg 10", "write.b 0 1", "wdmreg 8 1"],
     };
     for line in longest {
         for length in [LINE_LIMIT - 1, LINE_LIMIT, LINE_LIMIT + 1] {
@@ -214,10 +144,7 @@ fn lines(program: &str) -> Vec<Vec<u8>> {
             lines.push(line);
         }
     } else {
-        comment(
-            &mut lines,
-            "As many bytes as a line has room for, and one digit more or less",
-        );
+        comment(&mut lines, "As many bytes as a line has room for, and one digit more or less");
         lines.push(b"memory 800".to_vec());
         for length in [LINE_LIMIT - 1, LINE_LIMIT, LINE_LIMIT + 1, LINE_LIMIT + 2] {
             let mut line = b"bytes 0 ".to_vec();
@@ -237,40 +164,15 @@ fn bench_edges(lines: &mut Vec<Vec<u8>>) {
     let mut say = |text: &str| lines.push(text.as_bytes().to_vec());
     say("# memory: up to 10010");
     for n in [
-        "0",
-        "1",
-        "FFFF",
-        "10000",
-        "10001",
-        "1000F",
-        "10010",
-        "10011",
-        "20000",
-        "FFFFFFFF",
-        "100000000",
+        "0", "1", "FFFF", "10000", "10001", "1000F", "10010", "10011", "20000", "FFFFFFFF", "100000000",
         "000000000000010010",
     ] {
         say(&format!("memory {n}"));
     }
     for length in ["0", "1", "10", "400", "10010"] {
-        say(&format!(
-            "# bytes and peek where they fit and where they don't, {length} bytes of memory"
-        ));
+        say(&format!("# bytes and peek where they fit and where they don't, {length} bytes of memory"));
         say(&format!("memory {length}"));
-        for a in [
-            "0",
-            "1",
-            "F",
-            "10",
-            "3FF",
-            "400",
-            "1000E",
-            "1000F",
-            "10010",
-            "FFFFFFFE",
-            "FFFFFFFF",
-            "100000000",
-        ] {
+        for a in ["0", "1", "F", "10", "3FF", "400", "1000E", "1000F", "10010", "FFFFFFFE", "FFFFFFFF", "100000000"] {
             say(&format!("bytes {a} A1"));
             say(&format!("bytes {a} B2c3"));
             for n in ["0", "1", "2", "10"] {
@@ -284,39 +186,16 @@ fn bench_edges(lines: &mut Vec<Vec<u8>>) {
     say("# bytes: two digits each, at least one byte");
     say("memory 10");
     for hex in [
-        "",
-        "0",
-        "00",
-        "000",
-        "0000",
-        "0g",
-        "g0",
-        "aAbB",
-        "AaBb",
-        "0x",
-        "00 00",
-        "0\r",
-        "0000000000000000000000000000000000",
-        "00000000000000000000000000000000",
+        "", "0", "00", "000", "0000", "0g", "g0", "aAbB", "AaBb", "0x", "00 00", "0\r",
+        "0000000000000000000000000000000000", "00000000000000000000000000000000",
     ] {
         say(&format!("bytes 0 {hex}"));
     }
     say("peek 0 10");
     say("# event: one number or four, ATTRIBUTE of 8 bits, the others of 32");
     for event in [
-        "",
-        " 0",
-        " 0 0",
-        " 0 0 0",
-        " 0 0 0 0",
-        " 0 0 0 0 0",
-        " FFFFFFFE FFFFFFFF 9F FFFFFFFF",
-        " 100000000",
-        " 0 100000000 0 0",
-        " 0 0 100 0",
-        " 0 0 0 100000000",
-        " 0 0 0000000009f 0",
-        " 0 0 FF 0",
+        "", " 0", " 0 0", " 0 0 0", " 0 0 0 0", " 0 0 0 0 0", " FFFFFFFE FFFFFFFF 9F FFFFFFFF", " 100000000",
+        " 0 100000000 0 0", " 0 0 100 0", " 0 0 0 100000000", " 0 0 0000000009f 0", " 0 0 FF 0",
     ] {
         say(&format!("event{event}"));
     }

@@ -74,11 +74,7 @@ impl Desk {
     /// One field of the state line.
     pub fn state(&mut self, name: &str) -> String {
         let answer = self.say("state");
-        answer
-            .split(' ')
-            .find_map(|field| field.strip_prefix(name)?.strip_prefix('='))
-            .expect(name)
-            .to_string()
+        answer.split(' ').find_map(|field| field.strip_prefix(name)?.strip_prefix('=')).expect(name).to_string()
     }
 
     pub fn bstat(&mut self) -> char {
@@ -90,31 +86,21 @@ impl Desk {
         let answer = self.say(&format!("event {arguments}"));
         answer
             .strip_prefix("event ")
-            .map(|rest| {
-                rest.replace("level ", "")
-                    .replace("halted ", "")
-                    .replace("interrupt ", "")
-                    .replace("pc ", "")
-            })
+            .map(|rest| rest.replace("level ", "").replace("halted ", "").replace("interrupt ", "").replace("pc ", ""))
             .unwrap_or(answer)
     }
 }
 
 /// Cycles in hexadecimal.
 pub fn cycles(text: &str) -> Vec<u8> {
-    text.split_whitespace()
-        .map(|byte| u8::from_str_radix(byte, 16).unwrap())
-        .collect()
+    text.split_whitespace().map(|byte| u8::from_str_radix(byte, 16).unwrap()).collect()
 }
 
 /// The items of a trace as (cycle, code, value), or the refusal's number and cycle.
 pub fn items(trace: &[u8]) -> Result<Vec<(u32, u32, u32)>, (u8, u32)> {
     let mut words = vec![0; 4 * trace.len()];
     match second::trace::list_trace(trace, &mut words) {
-        Ok(count) => Ok(words[..2 * count]
-            .chunks(2)
-            .map(|item| (item[0] / 16, item[0] % 16, item[1]))
-            .collect()),
+        Ok(count) => Ok(words[..2 * count].chunks(2).map(|item| (item[0] / 16, item[0] % 16, item[1])).collect()),
         Err(refusal) => Err((refusal.number(), refusal.cycle)),
     }
 }
