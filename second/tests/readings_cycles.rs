@@ -1,10 +1,10 @@
 //! The readings of the open points: recorded cycles.
 
 mod common;
-use common::{cycles, items};
+use common::{cycles, items, Listing};
 use second::trace::list_trace;
 
-fn listed(text: &str) -> Result<Vec<(u32, u32, u32)>, (u8, u32)> {
+fn listed(text: &str) -> Listing {
     items(&cycles(text))
 }
 

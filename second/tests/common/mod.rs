@@ -97,7 +97,9 @@ pub fn cycles(text: &str) -> Vec<u8> {
 }
 
 /// The items of a trace as (cycle, code, value), or the refusal's number and cycle.
-pub fn items(trace: &[u8]) -> Result<Vec<(u32, u32, u32)>, (u8, u32)> {
+pub type Listing = Result<Vec<(u32, u32, u32)>, (u8, u32)>;
+
+pub fn items(trace: &[u8]) -> Listing {
     let mut words = vec![0; 4 * trace.len()];
     match second::trace::list_trace(trace, &mut words) {
         Ok(count) => Ok(words[..2 * count].chunks(2).map(|item| (item[0] / 16, item[0] % 16, item[1])).collect()),
