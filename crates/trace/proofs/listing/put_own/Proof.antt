@@ -1,0 +1,31 @@
+use borrow.Author.Needs.{needs}
+use Rattle.trace.proofs.listing.put_own.Statement.{statement}
+use Rattle.trace.proofs.listing.put_own.Tie as tie
+use Rattle.trace.proofs.listing.put_own.Reads as reads
+use Rattle.trace.proofs.listing.put_own.Lts as lts
+use Rattle.trace.proofs.cycle.gives_own.Reads as gives-own-reads
+use Rattle.trace.proofs.listing.put_item.Reads as put-item-reads
+
+-- src/listing.rt:127:8
+gives-own-requires : tie.Need-gives-own-requires
+gives-own-requires c κs = search needs
+
+-- src/listing.rt:133:9
+put-item-requires : tie.Need-put-item-requires
+put-item-requires c κs = ?
+
+-- src/listing.rt:133:9
+same-length : tie.Need-same-length
+same-length c = search needs
+
+-- src/listing.rt:133:9
+returns : tie.Need-returns
+returns c = ?
+
+-- src/listing.rt:122:1
+returns-2 : tie.Need-returns-2
+returns-2 c = ?
+
+pub put-own-spec : {M : Type 1} → statement M
+put-own-spec =
+    tie.close (tie.spec gives-own-requires put-item-requires same-length returns returns-2)

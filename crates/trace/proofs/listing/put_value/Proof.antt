@@ -1,0 +1,31 @@
+use borrow.Author.Needs.{needs}
+use Rattle.trace.proofs.listing.put_value.Statement.{statement}
+use Rattle.trace.proofs.listing.put_value.Tie as tie
+use Rattle.trace.proofs.listing.put_value.Reads as reads
+use Rattle.trace.proofs.listing.put_value.Lts as lts
+use Rattle.trace.proofs.cycle.read_value.Reads as read-value-reads
+use Rattle.trace.proofs.listing.put_item.Reads as put-item-reads
+
+-- src/listing.rt:111:13
+read-value-requires : tie.Need-read-value-requires
+read-value-requires c κs = search needs
+
+-- src/listing.rt:117:9
+put-item-requires : tie.Need-put-item-requires
+put-item-requires c κs = ?
+
+-- src/listing.rt:117:9
+same-length : tie.Need-same-length
+same-length c = search needs
+
+-- src/listing.rt:117:9
+returns : tie.Need-returns
+returns c = ?
+
+-- src/listing.rt:105:1
+returns-2 : tie.Need-returns-2
+returns-2 c = ?
+
+pub put-value-spec : {M : Type 1} → statement M
+put-value-spec =
+    tie.close (tie.spec read-value-requires put-item-requires same-length returns returns-2)

@@ -1,0 +1,5 @@
+pub mod Cycle
+pub mod CycleLaws
+pub mod Items
+pub mod ItemLaws
+pub mod Listing
