@@ -1,11 +1,17 @@
--- Laws of one cycle: a value grows by a nibble at its low end, and fits the nibbles it has.
+-- Laws of one cycle: what it finds under way goes on, a value grows by a nibble at its low end, and fits the nibbles it has.
 use mathlib.Core.Path.{_≡_, refl, ap, sym, _∙_}
 use Prim.Native.Nat.{ℕ, zero, suc, _+_, _-_, _*_, _/_, _%_, _^_, _≤_, _<_}
 use mathlib.Core.List.{List}
 use native.Mathlib.Numerals.{add-one}
 use native.Mathlib.Nat.{pow-succ', pow-le-pow-right}
 use native.Mathlib.Omega.{arith}
-use Rattle.trace.specs.Cycle.{ddata, value}
+use Rattle.trace.specs.declared.cycle.Carried.{Carried}
+use Rattle.trace.specs.Cycle.{pst, ddata, value, after, carriedInto}
+
+-- the cycle after cycle i finds what cycle i leaves
+pub carried-next : (trace : List ℕ) (i : ℕ) (c : Carried) → c ≡ carriedInto trace i → after c (pst trace i) ≡ carriedInto trace (i + 1)
+unfolding carriedInto
+carried-next trace i c e = rw (add-one i) (ap (λ (d : Carried). after d (pst trace i)) e)
 
 pub value-where : (trace : List ℕ) {a b n m : ℕ} → a ≡ b → n ≡ m → value trace a n ≡ value trace b m
 value-where trace e f = rw (e, f)

@@ -1,8 +1,9 @@
 -- Laws of the items: how many there are, and how their words follow each other.
 use mathlib.Core.Path.{_≡_, refl, ap, sym, _∙_}
-use Prim.Native.Nat.{ℕ, zero, suc, _+_, _*_, _≤_}
+use Prim.Native.Nat.{ℕ, zero, suc, _+_, _-_, _*_, _≤_}
 use mathlib.Core.Bool.{Bool, true, false, cond}
 use mathlib.Core.List.{List, [], _∷_, _++_}
+use native.Mathlib.Numerals.{add-one}
 use native.Mathlib.Nat.{add-zero, add-suc}
 use native.Mathlib.Omega.{arith}
 use lib.Dec.{eqb}
@@ -44,6 +45,10 @@ items-next trace i =
     length-append (itemsBefore trace i) (itemsAt trace i (carriedInto trace i) (pst trace i))
     ∙ ap (λ (n : ℕ). length (itemsBefore trace i) + n) (items-counted trace i (carriedInto trace i) (pst trace i))
 
+pub count-next : (trace : List ℕ) (i n : ℕ) (c : Carried) → n ≡ length (itemsBefore trace i) → c ≡ carriedInto trace i
+    → n + countAt c (pst trace i) ≡ length (itemsBefore trace (i + 1))
+count-next trace i n c e f = rw (add-one i) (rw (e, f) (sym (items-next trace i)))
+
 pub items-before-le : (trace : List ℕ) (i : ℕ) → length (itemsBefore trace i) ≤ 2 * i
 unfolding itemsBefore
 items-before-le trace zero = omega arith
@@ -62,3 +67,23 @@ words-append (x ∷ xs) ys = rw (words-append xs ys)
 pub length-words : (xs : List Item) → length (words xs) ≡ 2 * length xs
 length-words [] = refl
 length-words (x ∷ xs) = omega (arith, length-words xs)
+
+-- the words of a cycle: those of a value's item, then those of its own
+pub words-at : (trace : List ℕ) (i : ℕ) (c : Carried) (p : ℕ) → words (itemsAt trace i c p) ≡ words (valueItem trace i c) ++ words (ownItem i (c .run) p)
+unfolding itemsAt
+words-at trace i c p = words-append (valueItem trace i c) (ownItem i (c .run) p)
+
+-- the words of the cycles before cycle i, and those of cycle i
+pub words-next : (trace : List ℕ) (i : ℕ) (c : Carried) → c ≡ carriedInto trace i
+    → words (itemsBefore trace (i + 1)) ≡ words (itemsBefore trace i) ++ words (itemsAt trace i c (pst trace i))
+unfolding itemsBefore
+words-next trace i c e = rw (add-one i) (rw e (words-append (itemsBefore trace i) (itemsAt trace i (carriedInto trace i) (pst trace i))))
+
+-- the words of some cycles fit where those of all do
+pub words-fit : (trace : List ℕ) (i room : ℕ) → i ≤ length trace → length (words (items trace)) ≤ room → length (words (itemsBefore trace i)) ≤ room
+unfolding items
+words-fit trace i room h f =
+    omega (arith, length-words (itemsBefore trace i), length-words (itemsBefore trace (length trace)), rw e at (items-grow trace i (length trace - i)))
+  where
+    e : i + (length trace - i) ≡ length trace
+    e = omega arith

@@ -1,3 +1,10 @@
+use mathlib.Core.Path.{ap}
+use native.Mathlib.Omega.{arith}
+use lib.ListN.{length, length-append}
+use lib.Seq.{length-sets}
+use Rattle.trace.specs.Items.{valueItem, ownItem, words}
+use Rattle.trace.specs.ItemLaws.{words-at}
+use Rattle.trace.specs.StoreLaws.{sets-append}
 use borrow.Author.Needs.{needs}
 use Rattle.trace.proofs.listing.put_cycle.Statement.{statement}
 use Rattle.trace.proofs.listing.put_cycle.Tie as tie
@@ -8,11 +15,20 @@ use Rattle.trace.proofs.listing.put_value.Reads as put-value-reads
 
 -- src/listing.rt:144:9
 put-value-requires : tie.Need-put-value-requires
-put-value-requires c κs = ?
+put-value-requires c κs = let a = c .before .before .before .args in
+    let A = words (valueItem (a .trace .now) (a .i) (a .carried)) in
+    let B = words (ownItem (a .i) (a .carried .run) (a .pst)) in
+    let e = words-at (a .trace .now) (a .i) (a .carried) (a .pst) in
+    (search needs, omega (arith, ap length e, length-append A B))
 
 -- src/listing.rt:145:5
 put-own-requires : tie.Need-put-own-requires
-put-own-requires c κs = ?
+put-own-requires c κs = let a = c .before .before .before .before .before .before .before .args in
+    let A = words (valueItem (a .trace .now) (a .i) (a .carried)) in
+    let B = words (ownItem (a .i) (a .carried .run) (a .pst)) in
+    let e = words-at (a .trace .now) (a .i) (a .carried) (a .pst) in
+    let p = c .before .before .before .put-value .ensures in
+    (search needs, omega (arith, p .0, ap length (p .1), length-sets (a .out .now) (a .at) A, ap length e, length-append A B))
 
 -- src/listing.rt:139:1
 same-length : tie.Need-same-length
@@ -20,7 +36,13 @@ same-length c = search needs
 
 -- src/listing.rt:139:1
 returns : tie.Need-returns
-returns c = ?
+returns c = let a = c .before .before .before .before .before .before .before .before .before .before .args in
+    let A = words (valueItem (a .trace .now) (a .i) (a .carried)) in
+    let B = words (ownItem (a .i) (a .carried .run) (a .pst)) in
+    let e = words-at (a .trace .now) (a .i) (a .carried) (a .pst) in
+    let p = c .before .before .before .before .before .before .put-value .ensures in
+    let q = c .before .before .put-own .ensures in
+    (omega (arith, p .0, q .0, ap length e, length-append A B), rw e (cc (p .0, p .1, q .1, sets-append A B (a .out .now) (a .at))))
 
 pub put-cycle-spec : {M : Type 1} → statement M
 put-cycle-spec = tie.close (tie.spec put-value-requires put-own-requires same-length returns)

@@ -1,3 +1,6 @@
+use lib.ListN.{length-set}
+use native.Mathlib.Omega.{arith}
+use native.Mathlib.Numerals.{add-one}
 use borrow.Author.Needs.{needs}
 use Rattle.trace.proofs.listing.put_item.Statement.{statement}
 use Rattle.trace.proofs.listing.put_item.Tie as tie
@@ -38,7 +41,7 @@ mul-out-3 c = search needs
 
 -- src/listing.rt:101:5
 slice-write-out-2 : tie.Need-slice-write-out-2
-slice-write-out-2 c = ?
+slice-write-out-2 c = simp length-set (omega arith)
 
 -- src/listing.rt:102:5
 add-result : tie.Need-add-result
@@ -50,7 +53,7 @@ same-length c = search needs
 
 -- src/listing.rt:96:1
 returns : tie.Need-returns
-returns c = ?
+returns c = (search needs, simp add-one)
 
 pub put-item-spec : {M : Type 1} → statement M
 put-item-spec =
