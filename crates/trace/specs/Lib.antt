@@ -6,3 +6,4 @@ pub mod Listing
 pub mod StoreLaws
 pub mod JudgeLaws
 pub mod ListingLaws
+pub mod Examples
