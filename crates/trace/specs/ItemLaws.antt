@@ -73,11 +73,14 @@ pub words-at : (trace : List ℕ) (i : ℕ) (c : Carried) (p : ℕ) → words (i
 unfolding itemsAt
 words-at trace i c p = words-append (valueItem trace i c) (ownItem i (c .run) p)
 
--- the words of the cycles before cycle i, and those of cycle i
+-- the items of the cycles before cycle i, and those of cycle i
+pub items-more : (trace : List ℕ) (i : ℕ) (c : Carried) → c ≡ carriedInto trace i → itemsBefore trace (i + 1) ≡ itemsBefore trace i ++ itemsAt trace i c (pst trace i)
+unfolding itemsBefore
+items-more trace i c e = rw (add-one i, e)
+
 pub words-next : (trace : List ℕ) (i : ℕ) (c : Carried) → c ≡ carriedInto trace i
     → words (itemsBefore trace (i + 1)) ≡ words (itemsBefore trace i) ++ words (itemsAt trace i c (pst trace i))
-unfolding itemsBefore
-words-next trace i c e = rw (add-one i) (rw e (words-append (itemsBefore trace i) (itemsAt trace i (carriedInto trace i) (pst trace i))))
+words-next trace i c e = ap words (items-more trace i c e) ∙ words-append (itemsBefore trace i) (itemsAt trace i c (pst trace i))
 
 -- the words of some cycles fit where those of all do
 pub words-fit : (trace : List ℕ) (i room : ℕ) → i ≤ length trace → length (words (items trace)) ≤ room → length (words (itemsBefore trace i)) ≤ room

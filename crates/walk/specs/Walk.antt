@@ -12,7 +12,8 @@ use Rattle.trace.specs.declared.listing.Listing.{Listing}
 use Rattle.trace.specs.declared.listing.Listing.the-variants.{Items, Refused}
 use Rattle.trace.specs.Cycle.{pst, givesOwn, nothing, after}
 use Rattle.trace.specs.Items.{ofValue, ofCycle}
-use Rattle.trace.specs.Listing.{number, told, reading}
+use Rattle.trace.specs.Listing as told
+use Rattle.trace.specs.Listing.{number, Told, told, reading}
 use Rattle.walk.specs.declared.Place.{Place}
 use Rattle.walk.specs.declared.Handed.{Handed}
 use Rattle.walk.specs.declared.Handed.the-variants.{Item as oneItem, End as atEnd, Refused as asRefused}
@@ -61,3 +62,9 @@ abbrev pub toldStep : Handed → ToldStep
 toldStep (oneItem x) = item (x .cycle) (x .code) (x .value)
 toldStep atEnd = end
 toldStep (asRefused ground cycle) = refusal (number ground) cycle
+
+-- what a walk's first step hands out, by how its start is judged and by the items of the listing
+abbrev pub firstOf : Told → List Item → ToldStep
+firstOf (told.refusal number cycle) xs = refusal number cycle
+firstOf (told.counted n) [] = end
+firstOf (told.counted n) (x ∷ xs) = item (x .cycle) (x .code) (x .value)

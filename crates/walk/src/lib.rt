@@ -9,8 +9,9 @@ ghost use mathlib.Core.Path.{_≡_};
 ghost use Prim.Native.Nat.{_+_, _-_, _<_};
 ghost use mathlib.Core.Bool.{true, false};
 ghost use lib.ListN.{length};
-ghost use Rattle.trace.specs.Items.{ofValue, ofCycle};
-ghost use Rattle.walk.specs.Walk.{placed, valueNext, handing, stepFrom, stepOf, StartMeets};
+ghost use Rattle.trace.specs.Items.{ofValue, ofCycle, items};
+ghost use Rattle.trace.specs.Listing.{reading};
+ghost use Rattle.walk.specs.Walk.{placed, valueNext, handing, stepFrom, stepOf, StartMeets, toldStep, firstOf};
 ghost use Rattle.walk.specs.Held.{WalkStarts, steppedOf};
 
 // Where a walk stands: how its start was judged, the next cycle and what it finds under way, and
@@ -176,4 +177,13 @@ pub fn step_walk<'a>(walk: Walk<'a>) -> Stepped<'a>
         },
         handed: step.handed,
     }
+}
+
+// The first item of a trace, for callers that keep no walk.
+pub fn first_item(trace: &[u8]) -> Handed
+    ensures { λ r. ⌜ toldStep r ≡ firstOf (reading (now (trace .entry))) (items (now (trace .entry))) ⌝ }
+{
+    let walk = start_walk(trace);
+    let stepped = step_walk(walk);
+    stepped.handed
 }
