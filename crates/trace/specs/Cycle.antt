@@ -1,11 +1,10 @@
 -- Recorded cycles (01): what a cycle's byte says, what the cycles before it have left under way, and what it gives.
 use Prim.Native.Nat.{ℕ, zero, suc, _+_, _-_, _*_, _/_, _%_}
-use mathlib.Core.Bool.{Bool, true, false, cond, not, _||_}
-use mathlib.Core.List.{List, [], _∷_, _++_}
-use lib.Dec.{ltb, leb, eqb}
+use mathlib.Core.Bool.{Bool, false, cond, not, _||_}
+use mathlib.Core.List.{List}
+use lib.Dec.{ltb, eqb}
 use lib.ListN.{getD}
 use Rattle.trace.specs.declared.cycle.Carried.{Carried}
-use Rattle.trace.specs.declared.cycle.Item.{Item}
 
 -- "One byte a cycle: PST upper, DDATA lower nibble."
 abbrev pub pst : List ℕ → ℕ → ℕ

@@ -1,9 +1,9 @@
 -- P9 (01, "What the desk checks by eye") and the limits of "Recorded cycles", computed from the definitions.
-use mathlib.Core.Path.{_≡_, refl, ap, sym, _∙_}
+use mathlib.Core.Path.{_≡_, refl}
 use Prim.Native.Nat.{ℕ, zero, suc, _+_, _*_, _≤_, _<_}
-use mathlib.Core.List.{List, [], _∷_, _++_}
+use mathlib.Core.List.{List, [], _∷_}
 use native.Mathlib.Omega.{arith}
-use lib.ListN.{length, drop, getD, replicate, length-replicate}
+use lib.ListN.{length, getD, replicate, length-replicate}
 use borrow.Author.Tests.{lt-ltb, le-ltb}
 use Rattle.trace.specs.Cycle.{nothing, givesOwn, after, carriedInto, value}
 use Rattle.trace.specs.Items.{itemsAt, itemsBefore, items, words}

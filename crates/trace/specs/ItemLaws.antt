@@ -27,7 +27,7 @@ one-length false x = refl
 
 pub items-counted : (trace : List ℕ) (i : ℕ) (c : Carried) (p : ℕ) → length (itemsAt trace i c p) ≡ countAt c p
 unfolding itemsAt countAt
-items-counted trace i c p = length-append (valueItem trace i c) (ownItem i (c .run) p) ∙ simp one-length
+items-counted trace i c p = simp (length-append, one-length) (omega arith)
 
 one-le : (b : Bool) → one b ≤ 1
 one-le true = omega arith

@@ -12,7 +12,7 @@ use Rattle.trace.specs.declared.listing.Ground.the-variants.{TraceTooLon
 use Rattle.trace.specs.declared.listing.Listing.{Listing}
 use Rattle.trace.specs.declared.listing.Listing.the-variants.{Items, Refused}
 use Rattle.trace.specs.Items.{items}
-use Rattle.trace.specs.Listing.{number, Told, refusal, counted, told, tooShort, listing, wordsAfter, ListingMeets}
+use Rattle.trace.specs.Listing.{number, Told, refusal, told, tooShort, listing, wordsAfter, ListingMeets}
 
 -- a buffer of two words an item is enough, and a shorter one is not
 pub short-so : (trace : List ℕ) (room : ℕ) (t : Told) → room < 2 * length (items trace) → tooShort trace room t ≡ refusal (number BufferTooShort) 0

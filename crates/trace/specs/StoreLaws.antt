@@ -5,7 +5,7 @@ use mathlib.Core.List.{List, [], _∷_, _++_}
 use native.Mathlib.Nat.{add-zero, zero-add, add-suc, suc-add}
 use native.Mathlib.Omega.{arith}
 use lib.ListN.{length, drop, set}
-use lib.Seq.{sets, sets-eq}
+use lib.Seq.{sets, sets-eq, length-sets}
 
 -- two runs of stores are one
 pub sets-append : (a b l : List ℕ) (k : ℕ) → sets l k (a ++ b) ≡ sets (sets l k a) (k + length a) b
@@ -13,6 +13,10 @@ sets-append [] b l k = rw (add-zero k)
 sets-append (x ∷ a) b l k =
     sets-append a b (set l k x) (suc k)
     ∙ ap (λ (m : ℕ). sets (sets (set l k x) (suc k) a) m b) (suc-add k (length a) ∙ sym (add-suc k (length a)))
+
+-- stores keep the buffer's length
+pub length-stored : (before vs : List ℕ) (k : ℕ) {after : List ℕ} → after ≡ sets before k vs → length after ≡ length before
+length-stored before vs k e = ap length e ∙ length-sets before k vs
 
 -- stores from the front on leave what stands beyond them
 pub sets-front : (vs l : List ℕ) → length vs ≤ length l → sets l 0 vs ≡ vs ++ drop (length vs) l

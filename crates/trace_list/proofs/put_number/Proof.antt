@@ -1,12 +1,10 @@
+-- The loop's invariant: at most the 20 digits of a number are put, within the text.
 use borrow.Author.Needs.{needs}
 use mathlib.Core.Path.{_≡_}
 use Prim.Native.Nat.{_-_, _≤_}
 use lib.ListN.{length}
 use Rattle.trace_list.proofs.put_number.Statement.{statement}
 use Rattle.trace_list.proofs.put_number.Tie as tie
-use Rattle.trace_list.proofs.put_number.Reads as reads
-use Rattle.trace_list.proofs.put_number.Lts as lts
-use Rattle.io.proofs.decimal.Reads as decimal-reads
 
 abbrev Inv-loop : tie.InvT-loop
 Inv-loop text₀ at n digits count k₀ text k = (k ≤ 20) × (length text ≡ length text₀)
@@ -14,59 +12,45 @@ Inv-loop text₀ at n digits count k₀ text k = (k ≤ 20) × (length text ≡ 
 abbrev μ-loop : tie.MeasureT-loop
 μ-loop text₀ at n digits count k₀ text k = 20 - k
 
--- src/main.rt:16:9
 decimal-requires : tie.Need-decimal-requires Inv-loop μ-loop
 decimal-requires c κs = search needs
 
--- src/main.rt:18:5
 loop-holds : tie.Need-loop-holds Inv-loop μ-loop
 loop-holds c = search needs
 
--- src/main.rt:20:20
 add-result : tie.Need-add-result Inv-loop μ-loop
 add-result c = search needs
 
--- src/main.rt:20:13
 same-length : tie.Need-same-length Inv-loop μ-loop
 same-length c = search needs
 
--- src/main.rt:20:13
 returns : tie.Need-returns Inv-loop μ-loop
 returns c = search needs
 
--- src/main.rt:22:24
 array-read-text : tie.Need-array-read-text Inv-loop μ-loop
 array-read-text c = search needs
 
--- src/main.rt:22:14
 add-text : tie.Need-add-text Inv-loop μ-loop
 add-text c = search needs
 
--- src/main.rt:22:9
 slice-write-text : tie.Need-slice-write-text Inv-loop μ-loop
 slice-write-text c = search needs
 
--- src/main.rt:23:9
 add-k : tie.Need-add-k Inv-loop μ-loop
 add-k c = search needs
 
--- src/main.rt:18:5
 loop-less : tie.Need-loop-less Inv-loop μ-loop
 loop-less c = search needs
 
--- src/main.rt:18:5
 loop-again : tie.Need-loop-again Inv-loop μ-loop
 loop-again c = search needs
 
--- src/main.rt:25:5
 add-result-2 : tie.Need-add-result-2 Inv-loop μ-loop
 add-result-2 c = search needs
 
--- src/main.rt:11:1
 same-length-2 : tie.Need-same-length-2 Inv-loop μ-loop
 same-length-2 c = search needs
 
--- src/main.rt:11:1
 returns-2 : tie.Need-returns-2 Inv-loop μ-loop
 returns-2 c = search needs
 

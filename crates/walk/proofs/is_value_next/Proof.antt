@@ -1,14 +1,10 @@
 use borrow.Author.Needs.{needs}
 use Rattle.walk.proofs.is_value_next.Statement.{statement}
 use Rattle.walk.proofs.is_value_next.Tie as tie
-use Rattle.walk.proofs.is_value_next.Reads as reads
-use Rattle.walk.proofs.is_value_next.Lts as lts
 
--- src/lib.rt:55:9
 returns : tie.Need-returns
 returns c = search needs
 
--- src/lib.rt:51:1
 returns-2 : tie.Need-returns-2
 returns-2 c = rw (c .if1 .left)
 

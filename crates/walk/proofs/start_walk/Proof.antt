@@ -1,6 +1,6 @@
 -- `walk::start_walk` meets its contract: a walk of its MIR, by hand. `start_at` is called on the slice, and a `Walk` is made of the slice and the place that it returned.
 -- A `&[u8]` is Copy, so what it owns is had three times: for the callee, for the exit, and inside the result. Assumes nothing.
-use mathlib.Core.Path.{_≡_, refl, ap}
+use mathlib.Core.Path.{refl, ap}
 use Prim.Native.Nat.{ℕ}
 use mathlib.Core.List.{List, [], _∷_}
 use lib.Dec.{T as Holds}

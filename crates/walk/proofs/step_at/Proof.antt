@@ -3,27 +3,19 @@ use Rattle.walk.specs.StepLaws.{step-refused, step-read}
 use borrow.Author.Needs.{needs}
 use Rattle.walk.proofs.step_at.Statement.{statement}
 use Rattle.walk.proofs.step_at.Tie as tie
-use Rattle.walk.proofs.step_at.Reads as reads
-use Rattle.walk.proofs.step_at.Lts as lts
-use Rattle.walk.proofs.find_item.Reads as find-item-reads
 
--- src/lib.rt:143:28
 enum-known-start : tie.Need-enum-known-start
 enum-known-start c = search needs
 
--- src/lib.rt:147:30
 enum-told : tie.Need-enum-told
 enum-told c = search needs
 
--- src/lib.rt:147:30
 find-item-requires : tie.Need-find-item-requires
 find-item-requires c κs = search needs
 
--- src/lib.rt:138:1
 returns : tie.Need-returns
 returns c = sym (step-refused _ _ _ _ (c .before .start .given .1))
 
--- src/lib.rt:138:1
 returns-2 : tie.Need-returns-2
 returns-2 c = c .find-item .ensures ∙ sym (step-read _ _ (c .before .enum-told .given .0 .0) (c .before .enum-told .given .1))
 

@@ -3,35 +3,23 @@ use Rattle.trace.specs.Cycle.{after}
 use borrow.Author.Needs.{needs}
 use Rattle.trace.proofs.cycle.after_cycle.Statement.{statement}
 use Rattle.trace.proofs.cycle.after_cycle.Tie as tie
-use Rattle.trace.proofs.cycle.after_cycle.Reads as reads
-use Rattle.trace.proofs.cycle.after_cycle.Lts as lts
-use Rattle.trace.proofs.cycle.count_nibbles.Reads as count-nibbles-reads
-use Rattle.trace.proofs.cycle.is_marker.Reads as is-marker-reads
-use Rattle.trace.proofs.cycle.one_less.Reads as one-less-reads
-use Rattle.trace.proofs.cycle.run_of.Reads as run-of-reads
 
--- src/cycle.rt:80:8
 is-marker-requires : tie.Need-is-marker-requires
 is-marker-requires c κs = search needs
 
--- src/cycle.rt:81:13
 count-nibbles-requires : tie.Need-count-nibbles-requires
 count-nibbles-requires c κs = search needs
 
--- src/cycle.rt:82:9
 returns : tie.Need-returns
 unfolding after
 returns c = simp (sym (c .before .before .is-marker .ensures) ∙ c .before .if1 .taken, c .count-nibbles .ensures)
 
--- src/cycle.rt:88:9
 one-less-requires : tie.Need-one-less-requires
 one-less-requires c κs = search needs
 
--- src/cycle.rt:89:9
 run-of-requires : tie.Need-run-of-requires
 run-of-requires c κs = search needs
 
--- src/cycle.rt:77:1
 returns-2 : tie.Need-returns-2
 unfolding after
 returns-2 c = simp (sym (c .before .before .before .is-marker .ensures) ∙ c .before .before .if1 .left, c .before .one-less .ensures, c .run-of .ensures)

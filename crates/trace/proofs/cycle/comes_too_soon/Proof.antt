@@ -1,20 +1,14 @@
-use borrow.Author.Tests.{lt-ltb, le-ltb, eq-eqb, ne-eqb}
+use borrow.Author.Tests.{lt-ltb, le-ltb}
 use borrow.Author.Needs.{needs}
 use Rattle.trace.proofs.cycle.comes_too_soon.Statement.{statement}
 use Rattle.trace.proofs.cycle.comes_too_soon.Tie as tie
-use Rattle.trace.proofs.cycle.comes_too_soon.Reads as reads
-use Rattle.trace.proofs.cycle.comes_too_soon.Lts as lts
-use Rattle.trace.proofs.cycle.is_marker.Reads as is-marker-reads
 
--- src/cycle.rt:65:9
 returns : tie.Need-returns
 returns c = simp (lt-ltb _ _ (c .if1 .taken))
 
--- src/cycle.rt:67:5
 is-marker-requires : tie.Need-is-marker-requires
 is-marker-requires c κs = search needs
 
--- src/cycle.rt:61:1
 returns-2 : tie.Need-returns-2
 returns-2 c = simp (le-ltb _ _ (c .before .if1 .left), c .is-marker .ensures)
 

@@ -2,18 +2,13 @@ use lib.ListN.{List·getD-eq-default}
 use borrow.Author.Needs.{needs}
 use Rattle.trace.proofs.cycle.ddata_at.Statement.{statement}
 use Rattle.trace.proofs.cycle.ddata_at.Tie as tie
-use Rattle.trace.proofs.cycle.ddata_at.Reads as reads
-use Rattle.trace.proofs.cycle.ddata_at.Lts as lts
 
--- src/cycle.rt:121:26
 shared-slice-read-result : tie.Need-shared-slice-read-result
 shared-slice-read-result c = search needs
 
--- src/cycle.rt:118:1
 returns : tie.Need-returns
 returns c = search needs
 
--- src/cycle.rt:118:1
 returns-2 : tie.Need-returns-2
 returns-2 c = rw (List·getD-eq-default (c .before .args .trace .now) 0 {n = c .before .args .i} (search needs))
 

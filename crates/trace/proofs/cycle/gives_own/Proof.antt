@@ -1,22 +1,16 @@
-use borrow.Author.Tests.{lt-ltb, le-ltb, eq-eqb, ne-eqb}
+use borrow.Author.Tests.{lt-ltb, le-ltb}
 use Rattle.trace.specs.Cycle.{givesOwn}
 use borrow.Author.Needs.{needs}
 use Rattle.trace.proofs.cycle.gives_own.Statement.{statement}
 use Rattle.trace.proofs.cycle.gives_own.Tie as tie
-use Rattle.trace.proofs.cycle.gives_own.Reads as reads
-use Rattle.trace.proofs.cycle.gives_own.Lts as lts
-use Rattle.trace.proofs.cycle.is_single.Reads as is-single-reads
 
--- src/cycle.rt:55:9
 is-single-requires : tie.Need-is-single-requires
 is-single-requires c κs = search needs
 
--- src/cycle.rt:55:9
 returns : tie.Need-returns
 unfolding givesOwn
 returns c = simp (lt-ltb _ _ (c .before .if1 .taken), c .is-single .ensures)
 
--- src/cycle.rt:51:1
 returns-2 : tie.Need-returns-2
 unfolding givesOwn
 returns-2 c = simp (le-ltb _ _ (c .if1 .left))

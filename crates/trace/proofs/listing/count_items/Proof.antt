@@ -1,33 +1,25 @@
-use borrow.Author.Tests.{eq-eqb, ne-eqb, lt-ltb, le-ltb}
+use borrow.Author.Tests.{eq-eqb, ne-eqb}
 use mathlib.Core.Path.{sym, _∙_}
 use Rattle.trace.specs.ItemLaws.{countAt}
 use borrow.Author.Needs.{needs}
 use Rattle.trace.proofs.listing.count_items.Statement.{statement}
 use Rattle.trace.proofs.listing.count_items.Tie as tie
-use Rattle.trace.proofs.listing.count_items.Reads as reads
-use Rattle.trace.proofs.listing.count_items.Lts as lts
-use Rattle.trace.proofs.cycle.gives_own.Reads as gives-own-reads
 
--- src/listing.rt:45:9
 gives-own-requires : tie.Need-gives-own-requires
 gives-own-requires c κs = search needs
 
--- src/listing.rt:48:13
 returns : tie.Need-returns
 unfolding countAt
 returns c = rw (eq-eqb _ _ (c .before .if1 .taken), sym (c .before .before .before .gives-own .ensures) ∙ c .if2 .taken)
 
--- src/listing.rt:50:9
 returns-2 : tie.Need-returns-2
 unfolding countAt
 returns-2 c = rw (eq-eqb _ _ (c .before .if1 .taken), sym (c .before .before .before .gives-own .ensures) ∙ c .if2 .left)
 
--- src/listing.rt:42:1
 returns-3 : tie.Need-returns-3
 unfolding countAt
 returns-3 c = rw (ne-eqb _ _ (c .before .if1 .left), sym (c .before .before .before .gives-own .ensures) ∙ c .if3 .taken)
 
--- src/listing.rt:42:1
 returns-4 : tie.Need-returns-4
 unfolding countAt
 returns-4 c = rw (ne-eqb _ _ (c .before .if1 .left), sym (c .before .before .before .gives-own .ensures) ∙ c .if3 .left)

@@ -1,3 +1,4 @@
+-- Each answer of the judgement is the listing's, but for the buffer, which is judged last.
 use mathlib.Core.Path.{refl, ap, sym, _∙_}
 use native.Mathlib.Omega.{arith}
 use lib.ListN.{length}
@@ -10,47 +11,35 @@ use Rattle.trace.specs.StoreLaws.{sets-front}
 use borrow.Author.Needs.{needs}
 use Rattle.trace.proofs.listing.list_trace.Statement.{statement}
 use Rattle.trace.proofs.listing.list_trace.Tie as tie
-use Rattle.trace.proofs.listing.list_trace.Reads as reads
-use Rattle.trace.proofs.listing.list_trace.Lts as lts
-use Rattle.trace.proofs.listing.judge_trace.Reads as judge-trace-reads
-use Rattle.trace.proofs.listing.put_items.Reads as put-items-reads
 
--- src/listing.rt:168:9
 judge-trace-requires : tie.Need-judge-trace-requires
 judge-trace-requires c κs = search needs
 
--- src/listing.rt:170:28
 enum-known-judged : tie.Need-enum-known-judged
 enum-known-judged c = search needs
 
--- src/listing.rt:171:24
 enum-known-judged-2 : tie.Need-enum-known-judged-2
 enum-known-judged-2 c = search needs
 
--- src/listing.rt:173:17
 returns : tie.Need-returns
 returns c = let a = c .before .before .before .before .before .before .before .args in
     let n = c .before .before .judged2 .given .0 .0 in
     let e = read-so (a .trace .now) (length (a .out .now)) n (sym (c .before .before .before .before .judge-trace .ensures) ∙ ap told (c .before .before .judged2 .given .1)) in
     listing-meets _ _ _ _ (sym (e .1 ∙ short-so _ _ _ (omega (arith, e .0)))) refl
 
--- src/listing.rt:178:13
 put-items-requires : tie.Need-put-items-requires
 put-items-requires c κs = let a = c .before .before .before .before .before .before .before .before .args in
     let n = c .before .before .before .judged2 .given .0 .0 in
     let e = sym (c .before .before .before .before .before .judge-trace .ensures) ∙ ap told (c .before .before .before .judged2 .given .1) in
     (read-short _ n e, omega (arith, read-so (a .trace .now) 0 n e .0, length-words (items (a .trace .now))))
 
--- src/listing.rt:165:1
 returns-2 : tie.Need-returns-2
 returns-2 c = let g = c .before .judged .given in
     listing-meets _ _ _ _ (sym (refused-so _ _ _ _ (sym (c .before .before .before .judge-trace .ensures) ∙ ap told (g .1)))) refl
 
--- src/listing.rt:165:1
 same-length : tie.Need-same-length
 same-length c = search needs
 
--- src/listing.rt:165:1
 returns-3 : tie.Need-returns-3
 returns-3 c = let a = c .before .before .before .before .before .before .before .before .before .before .before .args in
     let n = c .before .before .before .before .before .before .judged2 .given .0 .0 in

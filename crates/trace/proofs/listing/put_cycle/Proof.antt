@@ -1,19 +1,14 @@
+-- The words of a value's item and then those of the cycle's own are the words of the cycle.
 use mathlib.Core.Path.{ap}
 use native.Mathlib.Omega.{arith}
 use lib.ListN.{length, length-append}
-use lib.Seq.{length-sets}
 use Rattle.trace.specs.Items.{valueItem, ownItem, words}
 use Rattle.trace.specs.ItemLaws.{words-at}
-use Rattle.trace.specs.StoreLaws.{sets-append}
+use Rattle.trace.specs.StoreLaws.{sets-append, length-stored}
 use borrow.Author.Needs.{needs}
 use Rattle.trace.proofs.listing.put_cycle.Statement.{statement}
 use Rattle.trace.proofs.listing.put_cycle.Tie as tie
-use Rattle.trace.proofs.listing.put_cycle.Reads as reads
-use Rattle.trace.proofs.listing.put_cycle.Lts as lts
-use Rattle.trace.proofs.listing.put_own.Reads as put-own-reads
-use Rattle.trace.proofs.listing.put_value.Reads as put-value-reads
 
--- src/listing.rt:144:9
 put-value-requires : tie.Need-put-value-requires
 put-value-requires c κs = let a = c .before .before .before .args in
     let A = words (valueItem (a .trace .now) (a .i) (a .carried)) in
@@ -21,20 +16,17 @@ put-value-requires c κs = let a = c .before .before .before .args in
     let e = words-at (a .trace .now) (a .i) (a .carried) (a .pst) in
     (search needs, omega (arith, ap length e, length-append A B))
 
--- src/listing.rt:145:5
 put-own-requires : tie.Need-put-own-requires
 put-own-requires c κs = let a = c .before .before .before .before .before .before .before .args in
     let A = words (valueItem (a .trace .now) (a .i) (a .carried)) in
     let B = words (ownItem (a .i) (a .carried .run) (a .pst)) in
     let e = words-at (a .trace .now) (a .i) (a .carried) (a .pst) in
     let p = c .before .before .before .put-value .ensures in
-    (search needs, omega (arith, p .0, ap length (p .1), length-sets (a .out .now) (a .at) A, ap length e, length-append A B))
+    (search needs, omega (arith, p .0, length-stored (a .out .now) A (a .at) (p .1), ap length e, length-append A B))
 
--- src/listing.rt:139:1
 same-length : tie.Need-same-length
 same-length c = search needs
 
--- src/listing.rt:139:1
 returns : tie.Need-returns
 returns c = let a = c .before .before .before .before .before .before .before .before .before .before .args in
     let A = words (valueItem (a .trace .now) (a .i) (a .carried)) in

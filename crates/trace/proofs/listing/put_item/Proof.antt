@@ -4,54 +4,40 @@ use native.Mathlib.Numerals.{add-one}
 use borrow.Author.Needs.{needs}
 use Rattle.trace.proofs.listing.put_item.Statement.{statement}
 use Rattle.trace.proofs.listing.put_item.Tie as tie
-use Rattle.trace.proofs.listing.put_item.Reads as reads
-use Rattle.trace.proofs.listing.put_item.Lts as lts
 
--- src/listing.rt:100:16
 mul-out : tie.Need-mul-out
 mul-out c = search needs
 
--- src/listing.rt:100:34
 cast-out : tie.Need-cast-out
 cast-out c = search needs
 
--- src/listing.rt:100:16
 add-out : tie.Need-add-out
 add-out c = search needs
 
--- src/listing.rt:100:15
 cast-out-2 : tie.Need-cast-out-2
 cast-out-2 c = search needs
 
--- src/listing.rt:100:5
 mul-out-2 : tie.Need-mul-out-2
 mul-out-2 c = search needs
 
--- src/listing.rt:100:5
 slice-write-out : tie.Need-slice-write-out
 slice-write-out c = search needs
 
--- src/listing.rt:101:9
 add-out-2 : tie.Need-add-out-2
 add-out-2 c = search needs
 
--- src/listing.rt:101:5
 mul-out-3 : tie.Need-mul-out-3
 mul-out-3 c = search needs
 
--- src/listing.rt:101:5
 slice-write-out-2 : tie.Need-slice-write-out-2
 slice-write-out-2 c = simp length-set (omega arith)
 
--- src/listing.rt:102:5
 add-result : tie.Need-add-result
 add-result c = search needs
 
--- src/listing.rt:96:1
 same-length : tie.Need-same-length
 same-length c = search needs
 
--- src/listing.rt:96:1
 returns : tie.Need-returns
 returns c = (search needs, simp add-one)
 

@@ -1,23 +1,18 @@
-use mathlib.Core.Path.{_≡_, refl, ap, sym, _∙_}
-use mathlib.Core.List.{_++_}
+-- The loop's invariant: the buffer holds the words of the cycles before cycle i, and `at` is how many they are.
+use mathlib.Core.Path.{_≡_, refl, ap, _∙_}
 use Prim.Native.Nat.{_+_, _-_, _≤_}
 use native.Mathlib.Nat.{zero-add}
 use native.Mathlib.Omega.{arith}
 use borrow.Author.Needs.{needs}
 use lib.ListN.{length, length-append}
-use lib.Seq.{sets, length-sets}
+use lib.Seq.{sets}
 use Rattle.trace.specs.Cycle.{pst, carriedInto}
 use Rattle.trace.specs.CycleLaws.{carried-next}
 use Rattle.trace.specs.Items.{itemsAt, itemsBefore, items, words}
 use Rattle.trace.specs.ItemLaws.{words-next, words-fit}
-use Rattle.trace.specs.StoreLaws.{sets-append}
+use Rattle.trace.specs.StoreLaws.{sets-append, length-stored}
 use Rattle.trace.proofs.listing.put_items.Statement.{statement}
 use Rattle.trace.proofs.listing.put_items.Tie as tie
-use Rattle.trace.proofs.listing.put_items.Reads as reads
-use Rattle.trace.proofs.listing.put_items.Lts as lts
-use Rattle.trace.proofs.cycle.after_cycle.Reads as after-cycle-reads
-use Rattle.trace.proofs.cycle.nothing_carried.Reads as nothing-carried-reads
-use Rattle.trace.proofs.listing.put_cycle.Reads as put-cycle-reads
 
 abbrev Inv-loop : tie.InvT-loop
 Inv-loop trace out₀ carried₀ at₀ i₀ out carried at i = (i ≤ length trace) × (carried ≡ carriedInto trace i) × (at ≡ length (words (itemsBefore trace i))) × (length out ≡ length out₀) × (out ≡ sets out₀ 0 (words (itemsBefore trace i)))
@@ -25,20 +20,16 @@ Inv-loop trace out₀ carried₀ at₀ i₀ out carried at i = (i ≤ length tra
 abbrev μ-loop : tie.MeasureT-loop
 μ-loop trace out₀ carried₀ at₀ i₀ out carried at i = length trace - i
 
--- src/listing.rt:153:9
 nothing-carried-requires : tie.Need-nothing-carried-requires Inv-loop μ-loop
 nothing-carried-requires c κs = tt
 
--- src/listing.rt:156:5
 loop-holds : tie.Need-loop-holds Inv-loop μ-loop
 unfolding carriedInto itemsBefore
 loop-holds c = (search needs, c .nothing-carried .ensures, refl, refl, refl)
 
--- src/listing.rt:157:19
 shared-slice-read-pst : tie.Need-shared-slice-read-pst Inv-loop μ-loop
 shared-slice-read-pst c = search needs
 
--- src/listing.rt:158:9
 put-cycle-requires : tie.Need-put-cycle-requires Inv-loop μ-loop
 put-cycle-requires c κs = let a = c .before .before .before .before .before .before .before .args in
     let w = c .before .before .before .loop in
@@ -47,19 +38,15 @@ put-cycle-requires c κs = let a = c .before .before .before .before .before .be
     let e = words-next trace (w .i) (w .carried) (w .inv .1) in
     (search needs, omega (arith, w .inv .2, ap length e, length-append (words (itemsBefore trace (w .i))) W, words-fit trace (w .i + 1) (length (a .out .now)) (omega arith) (omega arith)))
 
--- src/listing.rt:159:9
 after-cycle-requires : tie.Need-after-cycle-requires Inv-loop μ-loop
 after-cycle-requires c κs = tt
 
--- src/listing.rt:160:9
 add-i : tie.Need-add-i Inv-loop μ-loop
 add-i c = search needs
 
--- src/listing.rt:156:5
 loop-less : tie.Need-loop-less Inv-loop μ-loop
 loop-less c = search needs
 
--- src/listing.rt:156:5
 loop-again : tie.Need-loop-again Inv-loop μ-loop
 loop-again c = let a = c .before .before .before .before .before .before .before .before .before .before .before .args in
     let w = c .before .before .before .before .before .before .before .loop in
@@ -68,13 +55,11 @@ loop-again c = let a = c .before .before .before .before .before .before .before
     let W = words (itemsAt trace (w .i) (w .carried) (pst trace (w .i))) in
     let e = words-next trace (w .i) (w .carried) (w .inv .1) in
     let p = c .before .before .before .put-cycle .ensures in
-    (search needs, c .after-cycle .ensures ∙ carried-next _ (w .i) (w .carried) (w .inv .1), omega (arith, p .0, w .inv .2, ap length e, length-append B W), omega (arith, ap length (p .1), length-sets (w .out) (w .at) W), rw e (cc (p .1, w .inv .2, w .inv .4, sets-append B W (a .out .now) 0, zero-add (length B))))
+    (search needs, c .after-cycle .ensures ∙ carried-next _ (w .i) (w .carried) (w .inv .1), omega (arith, p .0, w .inv .2, ap length e, length-append B W), omega (arith, length-stored (w .out) W (w .at) (p .1)), rw e (cc (p .1, w .inv .2, w .inv .4, sets-append B W (a .out .now) 0, zero-add (length B))))
 
--- src/listing.rt:149:1
 same-length : tie.Need-same-length Inv-loop μ-loop
 same-length c = c .before .loop .inv .3
 
--- src/listing.rt:149:1
 returns : tie.Need-returns Inv-loop μ-loop
 unfolding items
 returns c = let w = c .before .loop in

@@ -3,28 +3,19 @@ use native.Mathlib.Nat.{add-zero}
 use borrow.Author.Needs.{needs}
 use Rattle.trace.proofs.listing.put_own.Statement.{statement}
 use Rattle.trace.proofs.listing.put_own.Tie as tie
-use Rattle.trace.proofs.listing.put_own.Reads as reads
-use Rattle.trace.proofs.listing.put_own.Lts as lts
-use Rattle.trace.proofs.cycle.gives_own.Reads as gives-own-reads
-use Rattle.trace.proofs.listing.put_item.Reads as put-item-reads
 
--- src/listing.rt:127:8
 gives-own-requires : tie.Need-gives-own-requires
 gives-own-requires c κs = search needs
 
--- src/listing.rt:133:9
 put-item-requires : tie.Need-put-item-requires
 put-item-requires c κs = rw (sym (c .before .before .gives-own .ensures) ∙ c .before .if1 .taken) at (c .before .before .before .before .pre)
 
--- src/listing.rt:133:9
 same-length : tie.Need-same-length
 same-length c = search needs
 
--- src/listing.rt:133:9
 returns : tie.Need-returns
 returns c = let p = c .before .before .put-item .ensures in rw (sym (c .before .before .before .before .before .gives-own .ensures) ∙ c .before .before .before .before .if1 .taken) p
 
--- src/listing.rt:122:1
 returns-2 : tie.Need-returns-2
 returns-2 c = rw (sym (c .before .gives-own .ensures) ∙ c .if1 .left) (sym (add-zero _), refl)
 

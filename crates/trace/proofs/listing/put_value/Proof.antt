@@ -4,28 +4,19 @@ use native.Mathlib.Nat.{add-zero}
 use borrow.Author.Needs.{needs}
 use Rattle.trace.proofs.listing.put_value.Statement.{statement}
 use Rattle.trace.proofs.listing.put_value.Tie as tie
-use Rattle.trace.proofs.listing.put_value.Reads as reads
-use Rattle.trace.proofs.listing.put_value.Lts as lts
-use Rattle.trace.proofs.cycle.read_value.Reads as read-value-reads
-use Rattle.trace.proofs.listing.put_item.Reads as put-item-reads
 
--- src/listing.rt:111:13
 read-value-requires : tie.Need-read-value-requires
 read-value-requires c κs = search needs
 
--- src/listing.rt:117:9
 put-item-requires : tie.Need-put-item-requires
 put-item-requires c κs = rw (eq-eqb _ _ (c .before .before .if1 .taken)) at (c .before .before .before .before .before .before .pre)
 
--- src/listing.rt:117:9
 same-length : tie.Need-same-length
 same-length c = search needs
 
--- src/listing.rt:117:9
 returns : tie.Need-returns
 returns c = let p = c .before .before .put-item .ensures in rw (eq-eqb _ _ (c .before .before .before .before .before .if1 .taken), ← c .before .before .before .before .read-value .ensures) p
 
--- src/listing.rt:105:1
 returns-2 : tie.Need-returns-2
 returns-2 c = rw (ne-eqb _ _ (c .if1 .left)) (sym (add-zero _), refl)
 
