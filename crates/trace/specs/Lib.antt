@@ -1,6 +1,7 @@
 pub mod Cycle
 pub mod CycleLaws
 pub mod Items
+pub mod MarkerLaws
 pub mod ItemLaws
 pub mod Listing
 pub mod StoreLaws
