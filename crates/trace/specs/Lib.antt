@@ -4,6 +4,7 @@ pub mod Items
 pub mod MarkerLaws
 pub mod ItemLaws
 pub mod Listing
+pub mod Stores
 pub mod StoreLaws
 pub mod JudgeLaws
 pub mod ListingLaws

@@ -4,11 +4,10 @@ use Prim.Native.Nat.{ℕ, zero, suc, _+_, _-_, _<_}
 use mathlib.Core.Bool.{true, false}
 use mathlib.Core.List.{List, [], _∷_}
 use native.Mathlib.Numerals.{add-one}
-use native.Mathlib.Nat.{add-zero, add-suc, sub-zero}
+use native.Mathlib.Nat.{add-zero, add-suc}
 use native.Mathlib.Omega.{arith}
 use borrow.Author.Tests.{eq-eqb}
 use Rattle.trace.specs.declared.cycle.Carried.{Carried}
-use Rattle.trace.specs.declared.cycle.Item.{Item}
 use Rattle.trace.specs.Cycle.{pst, marker, bytes, nibbles, after, carriedInto, value}
 use Rattle.trace.specs.Items.{ofValue, valueItem}
 

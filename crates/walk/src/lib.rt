@@ -11,8 +11,7 @@ ghost use mathlib.Core.Bool.{true, false};
 ghost use lib.ListN.{length};
 ghost use Rattle.trace.specs.Items.{ofValue, ofCycle, items};
 ghost use Rattle.trace.specs.Listing.{reading};
-ghost use Rattle.walk.specs.Walk.{placed, valueNext, handing, stepFrom, stepOf, StartMeets, toldStep, firstOf};
-ghost use Rattle.walk.specs.Held.{WalkStarts, steppedOf};
+ghost use Rattle.walk.specs.Walk.{placed, valueNext, handing, stepFrom, stepOf, StartMeets, toldStep, firstOf, WalkStarts, steppedOf};
 
 // Where a walk stands: how its start was judged, the next cycle and what it finds under way, and
 // whether that cycle's value is past.
