@@ -39,14 +39,17 @@ ground-back MarkerTooSoon = refl
 ground-back EndsInTransfer = refl
 ground-back BufferTooShort = refl
 
+-- no two grounds have one number
+pub ground-one : (g h : Ground) → number g ≡ number h → g ≡ h
+ground-one g h e = sym (ground-back g) ∙ ap groundOf e ∙ ground-back h
+
 -- two answers of one number and the same values are one
 pub told-one : (r s : Listing) → told r ≡ told s → r ≡ s
 told-one (Items n) (Items m) e = cc
 told-one (Items n) (Refused g i) e = let z : _≡_ {A = ℕ} 0 1 = cc in absurd (omega arith)
 told-one (Refused g i) (Items m) e = let z : _≡_ {A = ℕ} 0 1 = cc in absurd (omega arith)
 told-one (Refused g i) (Refused h j) e =
-    let k : number g ≡ number h = cc in
-    let same : g ≡ h = sym (ground-back g) ∙ ap groundOf k ∙ ground-back h in
+    let same : g ≡ h = ground-one g h (cc) in
     let cycle : i ≡ j = cc in
     cc
 

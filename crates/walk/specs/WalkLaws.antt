@@ -15,7 +15,7 @@ use Rattle.trace.specs.Cycle.{nothing, carriedInto}
 use Rattle.trace.specs.Items.{itemsBefore, items}
 use Rattle.trace.specs.Listing.{number, Told, refusal, counted, told, reading}
 use Rattle.trace.specs.JudgeLaws.{read-so}
-use Rattle.trace.specs.ListingLaws.{told-one}
+use Rattle.trace.specs.ListingLaws.{told-one, ground-one}
 use Rattle.walk.specs.declared.Place.{Place}
 use Rattle.walk.specs.declared.Walk.{Walk}
 use Rattle.walk.specs.declared.Handed.{Handed}
@@ -117,6 +117,25 @@ first-handed trace place s = by-reading (reading trace) refl
     by-reading : (t : Told) → reading trace ≡ t → toldStep (stepOf trace place .handed) ≡ firstOf t (items trace)
     by-reading (refusal k i) e = let r = walk-refused trace place k i 1 s e in cc
     by-reading (counted n) e = by-item n (items trace) (start-rest trace place s) (stepOf trace place .place) (stepOf trace place .handed) (step-unrolls trace place n (start-read trace place n s e) .0)
+
+-- two handings of the same number and values are one
+pub told-step-one : (r s : Handed) → toldStep r ≡ toldStep s → r ≡ s
+told-step-one (oneItem x) (oneItem y) e =
+    let i : x .cycle ≡ y .cycle = cc in
+    let c : x .code ≡ y .code = cc in
+    let v : x .value ≡ y .value = cc in
+    rw (i, c, v)
+told-step-one (asRefused g i) (asRefused h j) e =
+    let same : g ≡ h = ground-one g h (cc) in
+    let cycle : i ≡ j = cc in
+    cc
+told-step-one atEnd atEnd e = refl
+told-step-one (oneItem x) atEnd e = let z : _≡_ {A = ℕ} 0 1 = cc in absurd (omega arith)
+told-step-one (oneItem x) (asRefused h j) e = let z : _≡_ {A = ℕ} 0 1 = cc in absurd (omega arith)
+told-step-one atEnd (oneItem y) e = let z : _≡_ {A = ℕ} 0 1 = cc in absurd (omega arith)
+told-step-one atEnd (asRefused h j) e = let z : _≡_ {A = ℕ} 0 1 = cc in absurd (omega arith)
+told-step-one (asRefused g i) (oneItem y) e = let z : _≡_ {A = ℕ} 0 1 = cc in absurd (omega arith)
+told-step-one (asRefused g i) atEnd e = let z : _≡_ {A = ℕ} 0 1 = cc in absurd (omega arith)
 
 -- the same of the struct that borrows the trace
 pub walk-one : (trace : RefT (List ℕ)) (v w : Walk) → WalkStarts trace v → WalkStarts trace w → v ≡ w
