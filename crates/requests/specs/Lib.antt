@@ -1,8 +1,12 @@
 pub mod Request
 pub mod Words
 pub mod Building
-pub mod WordLaws
 pub mod Replies
 pub mod Reading
+pub mod Meant
+pub mod WordLaws
+pub mod MeantLaws
+pub mod CountLaws
 pub mod ReaderLaws
 pub mod NotYetLaws
+pub mod Shown

@@ -75,20 +75,20 @@ back Complete n = refl
 back BusError n = refl
 back Illegal n = refl
 
-number : ReadingOnPaper → ℕ
-number p = p .refusal .number
+refusalNumber : ReadingOnPaper → ℕ
+refusalNumber p = p .refusal .number
 
 pub told-reading-once : (r s : Reading) → toldReading r ≡ toldReading s → r ≡ s
-unfolding number
+unfolding refusalNumber
 told-reading-once (Ended o m) (Ended p n) e = sym (back o m) ∙ ap meant e ∙ back p n
 told-reading-once (Ended o m) (NotYet n) e = sym (back o m) ∙ ap meant e
-told-reading-once (Ended o m) (Refused h) e = absurd (number-is-not-zero h (sym (ap number e)))
+told-reading-once (Ended o m) (Refused h) e = absurd (number-is-not-zero h (sym (ap refusalNumber e)))
 told-reading-once (NotYet m) (Ended p n) e = ap meant e ∙ back p n
 told-reading-once (NotYet m) (NotYet n) e = ap meant e
-told-reading-once (NotYet m) (Refused h) e = absurd (number-is-not-zero h (sym (ap number e)))
-told-reading-once (Refused g) (Ended p n) e = absurd (number-is-not-zero g (ap number e))
-told-reading-once (Refused g) (NotYet n) e = absurd (number-is-not-zero g (ap number e))
-told-reading-once (Refused g) (Refused h) e = ap Refused (same-number-same-ground g h (ap number e))
+told-reading-once (NotYet m) (Refused h) e = absurd (number-is-not-zero h (sym (ap refusalNumber e)))
+told-reading-once (Refused g) (Ended p n) e = absurd (number-is-not-zero g (ap refusalNumber e))
+told-reading-once (Refused g) (NotYet n) e = absurd (number-is-not-zero g (ap refusalNumber e))
+told-reading-once (Refused g) (Refused h) e = ap Refused (same-number-same-ground g h (ap refusalNumber e))
 
 -- no second answer fits
 pub reading-unique : {request : Request} {replies : List ℕ} {r s : Reading} → ReadingMeets request replies r → ReadingMeets request replies s → r ≡ s

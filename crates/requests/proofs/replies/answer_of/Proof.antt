@@ -1,39 +1,28 @@
-use mathlib.Core.Path.{refl, sym, ap, _∙_}
 use borrow.Author.Needs.{needs}
 use Rattle.requests.proofs.replies.answer_of.Statement.{statement}
 use Rattle.requests.proofs.replies.answer_of.Tie as tie
-use Rattle.requests.proofs.replies.answer_of.Reads as reads
-use Rattle.requests.proofs.replies.answer_of.Lts as lts
 
--- src/replies.rt:111:26
 enum-told : tie.Need-enum-told
 enum-told c = search needs
 
--- src/replies.rt:112:30
 enum-told-2 : tie.Need-enum-told-2
 enum-told-2 c = search needs
 
--- src/replies.rt:113:24
 enum-known-reader : tie.Need-enum-known-reader
 enum-known-reader c = search needs
 
--- src/replies.rt:114:21
 enum-known-reader-2 : tie.Need-enum-known-reader-2
 enum-known-reader-2 c = search needs
 
--- src/replies.rt:107:1
 returns : tie.Need-returns
 returns c = rw (c .enum-told .given .1)
 
--- src/replies.rt:107:1
 returns-2 : tie.Need-returns-2
 returns-2 c = rw (c .enum-told2 .given .1)
 
--- src/replies.rt:107:1
 returns-3 : tie.Need-returns-3
 returns-3 c = rw (c .before .reader .given .1)
 
--- src/replies.rt:107:1
 returns-4 : tie.Need-returns-4
 returns-4 c = rw (c .before .reader2 .given .1)
 

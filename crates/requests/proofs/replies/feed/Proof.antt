@@ -1,58 +1,41 @@
-use mathlib.Core.Path.{refl, sym, ap, _∙_}
 use borrow.Author.Tests.{le-leb, lt-leb}
 use borrow.Author.Needs.{needs}
 use Rattle.requests.proofs.replies.feed.Statement.{statement}
 use Rattle.requests.proofs.replies.feed.Tie as tie
-use Rattle.requests.proofs.replies.feed.Reads as reads
-use Rattle.requests.proofs.replies.feed.Lts as lts
-use Rattle.requests.proofs.replies.take_first.Reads as take-first-reads
-use Rattle.requests.proofs.replies.take_second.Reads as take-second-reads
 
--- src/replies.rt:80:16
 enum-told : tie.Need-enum-told
 enum-told c = search needs
 
--- src/replies.rt:81:17
 take-first-requires : tie.Need-take-first-requires
 take-first-requires c κs = search needs
 
--- src/replies.rt:81:17
 returns : tie.Need-returns
 returns c = rw (c .before .before .enum-told .given .1, le-leb _ _ (c .before .if1 .taken), ← c .take-first .ensures)
 
--- src/replies.rt:85:24
 enum-known-reader : tie.Need-enum-known-reader
 enum-known-reader c = search needs
 
--- src/replies.rt:87:17
 take-second-requires : tie.Need-take-second-requires
 take-second-requires c κs = search needs
 
--- src/replies.rt:87:17
 returns-2 : tie.Need-returns-2
 returns-2 c = rw (c .before .before .before .reader .given .1, le-leb _ _ (c .before .if2 .taken), ← c .take-second .ensures)
 
--- src/replies.rt:91:24
 enum-known-reader-2 : tie.Need-enum-known-reader-2
 enum-known-reader-2 c = search needs
 
--- src/replies.rt:92:21
 enum-known-reader-3 : tie.Need-enum-known-reader-3
 enum-known-reader-3 c = search needs
 
--- src/replies.rt:75:1
 returns-3 : tie.Need-returns-3
 returns-3 c = rw (c .before .enum-told .given .1, lt-leb _ _ (c .if1 .left))
 
--- src/replies.rt:75:1
 returns-4 : tie.Need-returns-4
 returns-4 c = rw (c .before .before .reader .given .1, lt-leb _ _ (c .if2 .left))
 
--- src/replies.rt:75:1
 returns-5 : tie.Need-returns-5
 returns-5 c = rw (c .before .reader2 .given .1)
 
--- src/replies.rt:75:1
 returns-6 : tie.Need-returns-6
 returns-6 c = rw (c .before .reader3 .given .1)
 

@@ -1,26 +1,17 @@
-use mathlib.Core.Path.{refl, sym, ap, _∙_}
 use borrow.Author.Tests.{le-leb, lt-leb}
 use borrow.Author.Needs.{needs}
 use Rattle.requests.proofs.replies.take_first.Statement.{statement}
 use Rattle.requests.proofs.replies.take_first.Tie as tie
-use Rattle.requests.proofs.replies.take_first.Reads as reads
-use Rattle.requests.proofs.replies.take_first.Lts as lts
-use Rattle.requests.proofs.replies.take_data.Reads as take-data-reads
-use Rattle.requests.proofs.replies.take_status.Reads as take-status-reads
 
--- src/replies.rt:60:9
 take-data-requires : tie.Need-take-data-requires
 take-data-requires c κs = search needs
 
--- src/replies.rt:60:9
 returns : tie.Need-returns
 returns c = rw (le-leb _ _ (c .before .if1 .taken), ← c .take-data .ensures)
 
--- src/replies.rt:62:5
 take-status-requires : tie.Need-take-status-requires
 take-status-requires c κs = search needs
 
--- src/replies.rt:56:1
 returns-2 : tie.Need-returns-2
 returns-2 c = rw (lt-leb _ _ (c .before .if1 .left), ← c .take-status .ensures)
 

@@ -1,40 +1,29 @@
-use mathlib.Core.Path.{refl, sym, ap, _∙_}
 use borrow.Author.Tests.{le-leb, lt-leb}
 use borrow.Author.Needs.{needs}
 use Rattle.requests.proofs.replies.take_result.Statement.{statement}
 use Rattle.requests.proofs.replies.take_result.Tie as tie
-use Rattle.requests.proofs.replies.take_result.Reads as reads
-use Rattle.requests.proofs.replies.take_result.Lts as lts
 
--- src/replies.rt:20:16
 enum-told : tie.Need-enum-told
 enum-told c = search needs
 
--- src/replies.rt:21:17
 returns : tie.Need-returns
 returns c = rw (c .before .enum-told .given .1, le-leb _ _ (c .if1 .taken))
 
--- src/replies.rt:25:38
 enum-told-2 : tie.Need-enum-told-2
 enum-told-2 c = search needs
 
--- src/replies.rt:26:38
 enum-told-3 : tie.Need-enum-told-3
 enum-told-3 c = search needs
 
--- src/replies.rt:26:38
 cast-t8 : tie.Need-cast-t8
 cast-t8 c = search needs
 
--- src/replies.rt:14:1
 returns-2 : tie.Need-returns-2
 returns-2 c = rw (c .before .enum-told .given .1, lt-leb _ _ (c .if1 .left))
 
--- src/replies.rt:14:1
 returns-3 : tie.Need-returns-3
 returns-3 c = rw (c .enum-told2 .given .1)
 
--- src/replies.rt:14:1
 returns-4 : tie.Need-returns-4
 returns-4 c = rw (c .enum-told3 .given .1)
 

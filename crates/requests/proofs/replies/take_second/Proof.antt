@@ -1,24 +1,17 @@
-use mathlib.Core.Path.{refl, sym, ap, _∙_}
 use borrow.Author.Tests.{le-leb, lt-leb}
 use borrow.Author.Needs.{needs}
 use Rattle.requests.proofs.replies.take_second.Statement.{statement}
 use Rattle.requests.proofs.replies.take_second.Tie as tie
-use Rattle.requests.proofs.replies.take_second.Reads as reads
-use Rattle.requests.proofs.replies.take_second.Lts as lts
 
--- src/replies.rt:69:46
 mul-t5 : tie.Need-mul-t5
 mul-t5 c = search needs
 
--- src/replies.rt:69:46
 add-t6 : tie.Need-add-t6
 add-t6 c = search needs
 
--- src/replies.rt:69:9
 returns : tie.Need-returns
 returns c = rw (le-leb _ _ (c .if1 .taken))
 
--- src/replies.rt:65:1
 returns-2 : tie.Need-returns-2
 returns-2 c = rw (lt-leb _ _ (c .if1 .left))
 

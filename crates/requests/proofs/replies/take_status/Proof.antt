@@ -1,23 +1,16 @@
 use borrow.Author.Tests.{ne-eqb}
-use mathlib.Core.Path.{refl, sym, ap, _∙_}
 use Rattle.requests.proofs.replies.take_status.Statement.{statement}
 use Rattle.requests.proofs.replies.take_status.Tie as tie
-use Rattle.requests.proofs.replies.take_status.Reads as reads
-use Rattle.requests.proofs.replies.take_status.Lts as lts
 
--- src/replies.rt:45:1
 returns : tie.Need-returns
 returns c = rw (c .match .keys1)
 
--- src/replies.rt:45:1
 returns-2 : tie.Need-returns-2
 returns-2 c = rw (c .match .keys2)
 
--- src/replies.rt:45:1
 returns-3 : tie.Need-returns-3
 returns-3 c = rw (c .match .keys3)
 
--- src/replies.rt:45:1
 returns-4 : tie.Need-returns-4
 returns-4 c = let no = c .match .rest in simp (ne-eqb _ _ (no .0 .0 .1), ne-eqb _ _ (no .0 .1), ne-eqb _ _ (no .1))
 
