@@ -4,8 +4,8 @@ ghost use Rattle.requests.specs.Request.{dataInRange, inRange, kindOf};
 use grounds::Ground;
 use memory::Size;
 
-pub mod replies;
-pub mod words;
+mod replies;
+mod words;
 
 pub use replies::feed;
 pub use replies::is_done;
