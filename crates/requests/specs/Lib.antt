@@ -7,6 +7,7 @@ pub mod Meant
 pub mod WordLaws
 pub mod MeantLaws
 pub mod CountLaws
+pub mod FedLaws
 pub mod ReaderLaws
 pub mod NotYetLaws
 pub mod Shown
