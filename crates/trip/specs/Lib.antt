@@ -1,0 +1,5 @@
+pub mod Meaning
+pub mod Exchange
+pub mod StepLaws
+pub mod ClosingLaws
+pub mod WorkLaws
