@@ -105,9 +105,9 @@ closingReplies kind Complete = 1
 closingReplies kind BusError = 1
 closingReplies kind Illegal = 1
 
--- the packets: the built words, W for a command that waits, and a NOP for each closing reply
-abbrev pub legalPackets : ℕ → Request → Outcome → ℕ
-legalPackets w request outcome = length (builtWords request) + waitsOf w (commandOf request) + closingReplies (kindOf request) outcome
+-- the NOPs after the built words: W for a command that waits, and one for each closing reply
+abbrev pub nopsAfter : ℕ → Request → Outcome → ℕ
+nopsAfter w request outcome = waitsOf w (commandOf request) + closingReplies (kindOf request) outcome
 
 unfoldable pub packetsThere : Request → Scene → ℕ
-packetsThere request s = cond (legalThere request s) (legalPackets (s .board .w) request (meaning request s .outcome)) 2
+packetsThere request s = cond (legalThere request s) (length (builtWords request) + nopsAfter (s .board .w) request (meaning request s .outcome)) 2

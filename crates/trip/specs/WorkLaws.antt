@@ -1,41 +1,34 @@
 -- Laws of the work: what the port's work on a request's words comes to is what the request means, and its ending fits the result asked for.
-use Prim.Native.Nat.{ℕ, _*_, _+_, _/_, _%_, _^_, _≤_, _<_}
+use Prim.Native.Nat.{ℕ, _^_, _≤_, _<_}
 use native.Mathlib.Omega.{arith}
-use native.Mathlib.Nat.{div-add-mod'}
-use mathlib.Core.Path.{_≡_, refl, sym, ap, _∙_}
+use mathlib.Core.Path.{_≡_, refl, ap}
 use mathlib.Core.Bool.{Bool, true, false, cond}
 use mathlib.Core.List.{List, [], _∷_}
 use lib.Dec.{eqb}
 use lib.Bits.{and-le-r}
-use lib.ListN.{getD}
-use borrow.Author.Tests.{eqb-true, leb-true}
+use borrow.Author.Tests.{eqb-true}
 use Rattle.memory.specs.declared.Size.{Size}
 use Rattle.memory.specs.declared.Size.the-variants.{Byte, Word, Long}
 use Rattle.memory.specs.Memory.{aligned, present, valueAt, fetched, putAt, stored}
 use Rattle.memory.specs.MemoryLaws.{AllBelow, limit, value-within}
 use Rattle.command.specs.declared.Command.{Command}
 use Rattle.command.specs.declared.Command.the-variants as command
-use Rattle.command.specs.Command.{Row, lookedUp, operandWords}
+use Rattle.command.specs.Command.{Row, lookedUp}
 use Rattle.board.specs.declared.Board.{Board}
 use Rattle.board.specs.declared.Chain.{Chain}
 use Rattle.work.specs.declared.Access.the-variants.{Fetched, Missing}
 use Rattle.work.specs.declared.Ending.{Ending}
 use Rattle.work.specs.Access.{past, fetching, accessOf, memoryAfter, pointerAfter}
-use Rattle.work.specs.Work.{accessEnding, controlEnding, controlWriteEnding, endingOf, chainBy, chainAfter}
+use Rattle.work.specs.Work.{accessEnding, endingOf, chainBy, chainAfter}
 use Rattle.registers.specs.Csr.{flag, csrValue}
 use Rattle.registers.specs.Registers.{controlPlace, controlListed, controlFetched, withControl, withDebugWritten, boardAfter}
-use Rattle.plan.specs.Plan.{noOperands, addressIn, valueIn}
-use Rattle.requests.specs.declared.Request.{Request}
-use Rattle.requests.specs.declared.Request.the-variants.{Rdreg, Wdreg, Read, Write, Dump, Fill, Go, Nop, SyncPc, Rcreg, Wcreg, Rdmreg, Wdmreg}
+use Rattle.requests.specs.declared.Request.the-variants.{Wdmreg}
 use Rattle.requests.specs.declared.ResultKind.{ResultKind}
 use Rattle.requests.specs.declared.ResultKind.the-variants.{NoResult, OfSize}
 use Rattle.requests.specs.declared.Outcome.the-variants.{Value}
-use Rattle.requests.specs.Request.{dataInRange, inRange, kindOf}
-use Rattle.requests.specs.Words.{operands}
-use Rattle.requests.specs.WordLaws.{and-right}
-use Rattle.requests.specs.Meant.{debugRows, commandOf}
+use Rattle.requests.specs.Meant.{debugRows}
 use Rattle.trip.specs.Meaning.{Scene, Meaning, meaning, reads, writes, readsControl, writesControl}
-use Rattle.trip.specs.ClosingLaws.{outcomeOf, Fits, taken}
+use Rattle.trip.specs.ClosingLaws.{outcomeOf, Fits}
 
 -- what the port's work ends in, and what it leaves
 abbrev pub workEnding : Command → ℕ → Scene → Ending
@@ -102,7 +95,7 @@ fetched-fits Word v p h = omega arith
 fetched-fits Long v p h = omega arith
 
 module _ (size : Size) (s : Scene) where
-  read-meant : (a v : ℕ) → Meant (command.Read size) a v (OfSize size) s (reads size a s)
+  pub read-meant : (a v : ℕ) → Meant (command.Read size) a v (OfSize size) s (reads size a s)
   read-meant a v =
       let x = valueAt (s .memory) size (aligned size a) in
       by-test (present (s .memory) size a)
@@ -115,7 +108,7 @@ module _ (size : Size) (s : Scene) where
       })
       (λ h. let missing = fetched-missing (s .memory) size a h in record { outcome = rw (h, missing); leaves = rw (h, missing); fits = λ f. rw missing tt })
 
-  dump-meant : (a v : ℕ) → Meant (command.Dump size) a v (OfSize size) s (reads size (s .pointer) s)
+  pub dump-meant : (a v : ℕ) → Meant (command.Dump size) a v (OfSize size) s (reads size (s .pointer) s)
   dump-meant a v =
       let x = valueAt (s .memory) size (aligned size (s .pointer)) in
       by-test (present (s .memory) size (s .pointer))
@@ -128,13 +121,13 @@ module _ (size : Size) (s : Scene) where
       })
       (λ h. let missing = fetched-missing (s .memory) size (s .pointer) h in record { outcome = rw (h, missing); leaves = rw (h, missing); fits = λ f. rw missing tt })
 
-  write-meant : (a v : ℕ) → Meant (command.Write size) a v NoResult s (writes size a v s)
+  pub write-meant : (a v : ℕ) → Meant (command.Write size) a v NoResult s (writes size a v s)
   write-meant a v =
       by-test (present (s .memory) size a)
       (λ h. record { outcome = rw h; leaves = rw (h, stored-there (s .memory) size a v h); fits = λ f. rw h tt })
       (λ h. record { outcome = rw h; leaves = rw (h, stored-missing (s .memory) size a v h); fits = λ f. rw h tt })
 
-  fill-meant : (a v : ℕ) → Meant (command.Fill size) a v NoResult s (writes size (s .pointer) v s)
+  pub fill-meant : (a v : ℕ) → Meant (command.Fill size) a v NoResult s (writes size (s .pointer) v s)
   fill-meant a v =
       by-test (present (s .memory) size (s .pointer))
       (λ h. record { outcome = rw h; leaves = rw (h, stored-there (s .memory) size (s .pointer) v h); fits = λ f. rw h tt })
@@ -142,14 +135,14 @@ module _ (size : Size) (s : Scene) where
 
 -- ---- control registers
 module _ (s : Scene) where
-  read-control-meant : (rc v : ℕ) → Meant command.Rcreg rc v (OfSize Long) s (readsControl rc s)
+  pub read-control-meant : (rc v : ℕ) → Meant command.Rcreg rc v (OfSize Long) s (readsControl rc s)
   unfolding controlFetched
   read-control-meant rc v =
       by-test (controlListed rc)
       (λ h. record { outcome = rw h; leaves = rw h; fits = λ f. rw h (omega (arith, f .control (controlPlace rc))) })
       (λ h. record { outcome = rw h; leaves = rw h; fits = λ f. rw h tt })
 
-  write-control-meant : (rc v : ℕ) → Meant command.Wcreg rc v NoResult s (writesControl rc v s)
+  pub write-control-meant : (rc v : ℕ) → Meant command.Wcreg rc v NoResult s (writesControl rc v s)
   unfolding controlFetched withControl
   write-control-meant rc v =
       by-test (controlListed rc) (λ h. record { outcome = rw h; leaves = rw h; fits = λ f. rw h tt }) (λ h. record { outcome = rw h; leaves = rw h; fits = λ f. rw h tt })
@@ -159,13 +152,13 @@ flag-within : (x : Bool) → flag x ≤ 1
 flag-within true = omega arith
 flag-within false = omega arith
 
-csr-fits : (b : Board) → csrValue b ≤ 0xFFFFFFFF
+pub csr-fits : (b : Board) → csrValue b ≤ 0xFFFFFFFF
 unfolding csrValue
 csr-fits b =
     omega (arith, flag-within (b .status .fof), flag-within (b .status .trg), flag-within (b .status .halt), flag-within (b .status .bkpt), and-le-r (b .debug .csr) 0x0007FF70)
 
 -- RDMREG with the one n that is listed
-rdmreg-known : (P : Command → Type 0) (n : ℕ) → P command.Rdmreg → (cond (eqb n 0) command.Rdmreg command.Unknown ≡ command.Unknown → ⊥) → P (cond (eqb n 0) command.Rdmreg command.Unknown)
+pub rdmreg-known : (P : Command → Type 0) (n : ℕ) → P command.Rdmreg → (cond (eqb n 0) command.Rdmreg command.Unknown ≡ command.Unknown → ⊥) → P (cond (eqb n 0) command.Rdmreg command.Unknown)
 rdmreg-known P n p known = by-number (eqb n 0) known
   where
     by-number : (t : Bool) → (cond t command.Rdmreg command.Unknown ≡ command.Unknown → ⊥) → P (cond t command.Rdmreg command.Unknown)
@@ -187,7 +180,7 @@ found-there P n (r ∷ rs) each known = by-number (eqb n (r .word)) refl (found-
     by-number true e later known = rw (eqb-true n (r .word) e) (each .0)
     by-number false e later known = later known
 
-debug-meant : (n v a : ℕ) (s : Scene) → (lookedUp n debugRows ≡ command.Unknown → ⊥) → Meant (lookedUp n debugRows) a v NoResult s (meaning (Wdmreg n v) s)
+pub debug-meant : (n v a : ℕ) (s : Scene) → (lookedUp n debugRows ≡ command.Unknown → ⊥) → Meant (lookedUp n debugRows) a v NoResult s (meaning (Wdmreg n v) s)
 unfolding withDebugWritten
 debug-meant n v a s known =
     found-there (λ k c. Meant c a v NoResult s (meaning (Wdmreg k v) s)) n debugRows (record { outcome = refl; leaves = refl; fits = λ f. tt }, (record { outcome = refl; leaves = refl; fits = λ f. tt }, (record { outcome = refl; leaves = refl; fits = λ f. tt }, (record { outcome = refl; leaves = refl; fits = λ f. tt }, (record { outcome = refl; leaves = refl; fits = λ f. tt }, (record { outcome = refl; leaves = refl; fits = λ f. tt }, (record { outcome = refl; leaves = refl; fits = λ f. tt }, (record { outcome = refl; leaves = refl; fits = λ f. tt }, (record { outcome = refl; leaves = refl; fits = λ f. tt }, (record { outcome = refl; leaves = refl; fits = λ f. tt }, tt)))))))))) known
