@@ -9,3 +9,4 @@ pub mod RoundTrip
 pub mod FitLaws
 pub mod RestLaws
 pub mod ExchangeLaws
+pub mod Underway
