@@ -1,7 +1,6 @@
 -- Laws of the exchange in code: brought to rest, sent and read, it answers as promised.
 use Prim.Native.Nat.{ℕ, _+_, _≤_}
-use native.Mathlib.Omega.{arith}
-use mathlib.Core.Path.{_≡_, refl, sym, ap, _∙_}
+use mathlib.Core.Path.{_≡_, refl, ap, _∙_}
 use mathlib.Core.Bool.{Bool, true, false}
 use mathlib.Core.List.{List, [], _∷_}
 use lib.Dec.{leb}
@@ -24,7 +23,6 @@ use Rattle.trip.specs.RestLaws.{comes-to-rest, rest-keeps-fit, rest-nops-bound}
 use Rattle.trip.specs.ExchangeLaws.{exchange-comes-to, packets-bound}
 use Rattle.exchange.specs.declared.Exchanged.the-variants.{Ended}
 use Rattle.exchange.specs.Exchange.{answerOf, exchangeVerdict}
-use Rattle.exchange.specs.Typed.{Typed, typed-is-fit}
 use Rattle.exchange.specs.Promise.{restScene, restPackets}
 
 -- ---- accepted

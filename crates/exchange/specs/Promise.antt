@@ -8,7 +8,7 @@ use Rattle.grounds.specs.GroundLaws.{same-number-same-ground, number-is-not-zer
 use Rattle.board.specs.declared.Board.{Board}
 use Rattle.board.specs.declared.Place.{Place}
 use Rattle.port.specs.Packets.{unless}
-use Rattle.port.specs.Run.{State, stateOf}
+use Rattle.port.specs.Run.{stateOf}
 use Rattle.requests.specs.declared.Request.{Request}
 use Rattle.requests.specs.declared.Outcome.{Outcome}
 use Rattle.requests.specs.declared.Outcome.the-variants.{Value, Complete, BusError, Illegal}

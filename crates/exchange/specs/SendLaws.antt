@@ -1,7 +1,7 @@
 -- Laws of sending: no packet of an exchange is refused, and the words in the buffer are those built.
 use Prim.Native.Nat.{ℕ, zero, suc, _≤_}
 use native.Mathlib.Omega.{arith}
-use mathlib.Core.Path.{_≡_, refl, sym, ap, _∙_}
+use mathlib.Core.Path.{_≡_, refl, ap, _∙_}
 use mathlib.Core.Bool.{Bool, true, false, not}
 use mathlib.Core.List.{List, [], _∷_, _++_}
 use lib.ListN.{length, getD, drop, replicate}
@@ -11,7 +11,7 @@ use Rattle.board.specs.declared.Place.{Place}
 use Rattle.port.specs.declared.Answer.{Answer}
 use Rattle.port.specs.Packets.{replyNow, said}
 use Rattle.port.specs.Promise.{PacketMeets}
-use Rattle.port.specs.PacketLaws.{Stepped, accepted-takes-its-step, no-other}
+use Rattle.port.specs.PacketLaws.{accepted-takes-its-step, no-other}
 use Rattle.port.specs.Run.{stateOf, stepped}
 use Rattle.port.specs.RunLaws.{stepped-by}
 use Rattle.requests.specs.declared.Request.{Request}
@@ -19,7 +19,7 @@ use Rattle.requests.specs.declared.Built.{Built}
 use Rattle.requests.specs.Request.{inRange}
 use Rattle.requests.specs.Words.{builtWords}
 use Rattle.requests.specs.CountLaws.{word-count-bound}
-use Rattle.requests.specs.Building.{bufferAt, buildingVerdict, BuildingMeets}
+use Rattle.requests.specs.Building.{BuildingMeets}
 use Rattle.trip.specs.FitLaws.{Fit, fit-is-in-range}
 
 pub record Sending (b : Board) (p : Place) (m : List ℕ) (word : ℕ) (r : Answer) (after : List ℕ) : Type 0 where

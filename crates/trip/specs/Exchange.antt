@@ -1,7 +1,7 @@
 -- The exchange (01, Packets, and by eye): a board brought to rest, a request's words sent and then NOPs, and the replies read.
 use Prim.Native.Nat.{ℕ, zero, suc, _+_}
 use mathlib.Core.Bool.{Bool, true, false, cond}
-use mathlib.Core.List.{List, [], _∷_}
+use mathlib.Core.List.{List}
 use lib.ListN.{length, getD, replicate}
 use Rattle.board.specs.declared.Phase.{Phase}
 use Rattle.board.specs.declared.Phase.the-variants.{Rest, Due, Waiting, Low}
@@ -20,7 +20,7 @@ use Rattle.requests.specs.Words.{commandWord, operands, builtWords}
 use Rattle.requests.specs.Replies.{fed, done}
 use Rattle.requests.specs.Meant.{commandOf}
 use Rattle.requests.specs.CountLaws.{kindWords}
-use Rattle.trip.specs.Meaning.{Scene, Meaning, meaning}
+use Rattle.trip.specs.Meaning.{Scene, meaning}
 
 -- a NOP is the word 0
 abbrev pub nops : ℕ → List ℕ

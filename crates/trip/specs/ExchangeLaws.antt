@@ -6,7 +6,6 @@ use mathlib.Core.Path.{_≡_, refl, sym, ap, _∙_, subst}
 use mathlib.Core.Bool.{Bool, true, false}
 use mathlib.Core.List.{List, [], _∷_, _++_}
 use lib.ListN.{length, getD, length-append, length-replicate}
-use Rattle.memory.specs.declared.Size.{Size}
 use Rattle.port.specs.Packets.{replyNow}
 use Rattle.port.specs.Run.{State, stepped, ran, replies}
 use Rattle.requests.specs.declared.Request.{Request}
@@ -19,10 +18,10 @@ use Rattle.requests.specs.declared.Reader.the-variants.{First, Closed}
 use Rattle.requests.specs.Request.{inRange, kindOf}
 use Rattle.requests.specs.Words.{commandWord, operands, builtWords}
 use Rattle.requests.specs.WordLaws.{size-words-bound}
-use Rattle.requests.specs.Replies.{fed, fedAll, done, used}
+use Rattle.requests.specs.Replies.{fed, done}
 use Rattle.requests.specs.ReaderLaws.{done-uses-none}
 use Rattle.requests.specs.Meant.{commandOf}
-use Rattle.requests.specs.CountLaws.{kindWords, word-count-bound}
+use Rattle.requests.specs.CountLaws.{word-count-bound}
 use Rattle.trip.specs.Meaning.{Scene, meaning}
 use Rattle.trip.specs.Exchange.{nops, atRest, resting, sceneOf, talk, talked, talkBudget, exchanged, unchained, secondWord, legalThere, outcomeThere, stateThere, closingReplies, nopsAfter, packetsThere}
 use Rattle.trip.specs.ClosingLaws.{Closes}
@@ -30,10 +29,7 @@ use Rattle.trip.specs.WorkLaws.{Sized}
 use Rattle.trip.specs.RoundTrip.{legal-closes, illegal-closes}
 use Rattle.trip.specs.FitLaws.{Fit, fit-is-sized}
 use Rattle.trip.specs.RestLaws.{waits-bound, rest-is-resting}
-
-by-test : {A : Type 0} (t : Bool) → (t ≡ true → A) → (t ≡ false → A) → A
-by-test true f g = f refl
-by-test false f g = g refl
+use Rattle.trip.specs.StepLaws.{by-test}
 
 -- ---- the words sent, one after the other
 -- a list of words is what a request sends from its i-th packet on

@@ -22,7 +22,6 @@ use Rattle.port.specs.Packets.{placeBy, boardBy, planFor, placeNext, boardNext,
 use Rattle.port.specs.Run.{State, stepped}
 use Rattle.port.specs.Sound.{SoundBoard, SoundPlace, SoundMemory}
 use Rattle.port.specs.SoundLaws.{packet-keeps-board, packet-keeps-place, packet-keeps-memory, packet-keeps-w, sound-is-in-range}
-use Rattle.trip.specs.Meaning.{Scene}
 use Rattle.trip.specs.Exchange.{sceneOf}
 use Rattle.trip.specs.WorkLaws.{Sized}
 

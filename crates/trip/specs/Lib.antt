@@ -10,3 +10,7 @@ pub mod FitLaws
 pub mod RestLaws
 pub mod ExchangeLaws
 pub mod Underway
+pub mod WriteRead
+pub mod Consequences
+pub mod EveryW
+pub mod Shown

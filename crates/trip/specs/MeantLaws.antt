@@ -2,7 +2,7 @@
 use Prim.Native.Nat.{ℕ, _*_, _+_, _%_}
 use native.Mathlib.Omega.{arith}
 use native.Mathlib.Nat.{div-add-mod'}
-use mathlib.Core.Path.{_≡_, refl, sym, ap}
+use mathlib.Core.Path.{_≡_, refl}
 use mathlib.Core.Bool.{Bool, true, false, not, _||_}
 use borrow.Author.Tests.{leb-true}
 use Rattle.memory.specs.declared.Size.the-variants.{Byte, Word, Long}
@@ -10,13 +10,13 @@ use Rattle.command.specs.declared.Command.{Command}
 use Rattle.command.specs.declared.Command.the-variants as command
 use Rattle.command.specs.Command.{decoded, operandWords}
 use Rattle.board.specs.declared.Chain.{Chain}
-use Rattle.plan.specs.Plan.{carriesC, lawful, legal, noOperands, addressIn, valueIn}
+use Rattle.plan.specs.Plan.{carriesC, legal, noOperands, addressIn, valueIn}
 use Rattle.requests.specs.declared.Request.{Request}
 use Rattle.requests.specs.declared.Request.the-variants.{Rdreg, Wdreg, Read, Write, Dump, Fill, Go, Nop, SyncPc, Rcreg, Wcreg, Rdmreg, Wdmreg}
 use Rattle.requests.specs.declared.ResultKind.the-variants.{OfSize}
 use Rattle.requests.specs.Request.{dataInRange, inRange, kindOf}
 use Rattle.requests.specs.Words.{commandWord, operands}
-use Rattle.requests.specs.WordLaws.{and-left, and-right}
+use Rattle.requests.specs.WordLaws.{and-right}
 use Rattle.requests.specs.Meant.{commandOf}
 use Rattle.requests.specs.MeantLaws.{decoded-as-meant}
 use Rattle.requests.specs.CountLaws.{operand-count}

@@ -1,10 +1,9 @@
 -- Laws of rest: NOPs bring every place within its ranges to rest, within the budget.
 use Prim.Native.Nat.{ℕ, zero, suc, _+_, _-_, _≤_, _<_}
 use native.Mathlib.Omega.{arith}
-use mathlib.Core.Path.{_≡_, refl, sym, ap}
+use mathlib.Core.Path.{_≡_, refl}
 use mathlib.Core.Bool.{Bool, true, false, cond}
 use mathlib.Core.List.{List}
-use Rattle.memory.specs.declared.Size.{Size}
 use Rattle.command.specs.declared.Command.{Command}
 use Rattle.command.specs.declared.Command.the-variants.{Unknown, Rdreg, Wdreg, Read, Write, Dump, Fill, Go, Nop, SyncPc, Rcreg, Wcreg, Rdmreg, Wdmreg}
 use Rattle.command.specs.Command.{operandWords, waits}
@@ -20,14 +19,14 @@ use Rattle.work.specs.Access.{accessOf}
 use Rattle.work.specs.Work.{endingOf, phaseAfter}
 use Rattle.plan.specs.declared.Plan.{Plan}
 use Rattle.plan.specs.declared.Plan.the-variants.{Hold, Reject, Release, Work}
-use Rattle.plan.specs.Plan.{withOperand, addressIn, valueIn, waitsOf, ready, collected, begun, continued, planOf}
+use Rattle.plan.specs.Plan.{withOperand, addressIn, valueIn, waitsOf, ready, collected, continued, planOf}
 use Rattle.port.specs.Packets.{placeBy, planFor, placeNext}
 use Rattle.port.specs.Run.{State, stateOf, stepped, ran}
 use Rattle.port.specs.Sound.{PhaseWithin}
 use Rattle.port.specs.SoundLaws.{packet-keeps-w}
 use Rattle.requests.specs.WordLaws.{size-words-bound}
 use Rattle.trip.specs.Exchange.{nops, atRest, resting, sceneOf, rested, restNops, restBudget}
-use Rattle.trip.specs.StepLaws.{waits-none, waits-more, due-none, due-more}
+use Rattle.trip.specs.StepLaws.{by-test, waits-none, waits-more, due-none, due-more}
 use Rattle.trip.specs.FitLaws.{Fit, packet-keeps-fit}
 
 -- the most NOPs that a phase may still need
@@ -110,10 +109,6 @@ left-bound w (Waiting c n a v) h f = omega (arith, f .1)
 left-bound w (Low low) h f = omega arith
 
 -- ---- rest
-by-test : {A : Type 0} (t : Bool) → (t ≡ true → A) → (t ≡ false → A) → A
-by-test true f g = f refl
-by-test false f g = g refl
-
 none-left : (w : ℕ) (phase : Phase) → left w phase ≤ 0 → atRest phase ≡ true
 none-left w Rest h = refl
 none-left w (Due c n t) h = absurd (omega arith)

@@ -1,20 +1,18 @@
 -- The round trip: a request's words and then NOPs, sent to a place at rest, are read as what the request means, and leave that.
-use Prim.Native.Nat.{ℕ, zero, suc, _+_, _-_, _≤_, _<_}
+use Prim.Native.Nat.{ℕ, suc, _+_, _-_}
 use native.Mathlib.Omega.{arith}
-use mathlib.Core.Path.{_≡_, refl, sym, ap, _∙_, subst}
-use mathlib.Core.Bool.{Bool, true, false}
+use mathlib.Core.Path.{_≡_, refl, subst}
+use mathlib.Core.Bool.{true, false}
 use mathlib.Core.List.{List, [], _∷_, _++_}
-use lib.ListN.{length, getD}
-use Rattle.command.specs.Command.{operandWords}
+use lib.ListN.{length}
 use Rattle.plan.specs.declared.Plan.the-variants.{Work}
-use Rattle.plan.specs.Plan.{noOperands, waitsOf, collected}
+use Rattle.plan.specs.Plan.{noOperands, waitsOf}
 use Rattle.port.specs.Packets.{replyNow}
 use Rattle.port.specs.Run.{State, stepped, ran, replies}
 use Rattle.requests.specs.declared.Request.{Request}
-use Rattle.requests.specs.declared.ResultKind.{ResultKind}
 use Rattle.requests.specs.declared.Outcome.{Outcome}
 use Rattle.requests.specs.declared.Outcome.the-variants.{Illegal}
-use Rattle.requests.specs.declared.Reader.the-variants.{First, Closed}
+use Rattle.requests.specs.declared.Reader.the-variants.{First}
 use Rattle.requests.specs.Request.{inRange, kindOf}
 use Rattle.requests.specs.Words.{commandWord, operands, builtWords}
 use Rattle.requests.specs.WordLaws.{operands-clear}
@@ -27,7 +25,7 @@ use Rattle.trip.specs.Exchange.{nops, resting, unchained, secondWord, le
 use Rattle.trip.specs.Promise.{Trip}
 use Rattle.trip.specs.StepLaws.{byPlan, due-none, command-taken, illegal-taken}
 use Rattle.trip.specs.ClosingLaws.{Closes, told, taken, waited, operands-taken}
-use Rattle.trip.specs.WorkLaws.{Sized, Meant, workEnding, workScene}
+use Rattle.trip.specs.WorkLaws.{Sized, workEnding, workScene}
 use Rattle.trip.specs.MeantLaws.{legal-is-known, addressSent, valueSent, work-is-meant}
 
 -- ---- legal

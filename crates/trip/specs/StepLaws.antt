@@ -1,9 +1,8 @@
 -- Laws of a packet's step: a command under way goes on as if nothing had been held, and a NOP at rest leaves all but the reply.
 use Prim.Native.Nat.{ℕ, zero, suc, _-_, _≤_}
 use native.Mathlib.Omega.{arith}
-use mathlib.Core.Path.{_≡_, refl, sym, ap, ap₂, _∙_}
+use mathlib.Core.Path.{_≡_, refl, ap}
 use mathlib.Core.Bool.{Bool, true, false}
-use mathlib.Core.List.{List}
 use borrow.Author.Tests.{lt-leb, ne-eqb}
 use Rattle.command.specs.declared.Command.{Command}
 use Rattle.command.specs.declared.Command.the-variants.{Unknown, Rdreg, Wdreg, Read, Write, Dump, Fill, Go, Nop, SyncPc, Rcreg, Wcreg, Rdmreg, Wdmreg}
@@ -24,6 +23,11 @@ use Rattle.port.specs.Packets.{chainDuring, placeBy, boardBy, memoryBy, planFor
 use Rattle.port.specs.Run.{State, stateOf, stepped}
 use Rattle.trip.specs.Meaning.{Scene}
 use Rattle.trip.specs.Exchange.{resting, unchained}
+
+-- by cases of a test
+pub by-test : {A : Type 0} (t : Bool) → (t ≡ true → A) → (t ≡ false → A) → A
+by-test true f g = f refl
+by-test false f g = g refl
 
 -- what a plan leaves of a state
 abbrev pub byPlan : Plan → State → State

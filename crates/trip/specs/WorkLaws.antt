@@ -29,6 +29,7 @@ use Rattle.requests.specs.declared.Outcome.the-variants.{Value}
 use Rattle.requests.specs.Meant.{debugRows}
 use Rattle.trip.specs.Meaning.{Scene, Meaning, meaning, reads, writes, readsControl, writesControl}
 use Rattle.trip.specs.ClosingLaws.{outcomeOf, Fits}
+use Rattle.trip.specs.StepLaws.{by-test}
 
 -- what the port's work ends in, and what it leaves
 abbrev pub workEnding : Command → ℕ → Scene → Ending
@@ -56,10 +57,6 @@ pub record Meant (c : Command) (address value : ℕ) (kind : ResultKind) (s : Sc
   pub leaves : workScene c address value s ≡ m .leaves
   -- its replies are those that the request can have
   pub fits : Sized s → Fits kind (workEnding c address s)
-
-by-test : {A : Type 0} (t : Bool) → (t ≡ true → A) → (t ≡ false → A) → A
-by-test true f g = f refl
-by-test false f g = g refl
 
 -- ---- memory
 module _ (m : List ℕ) (size : Size) (a : ℕ) where
