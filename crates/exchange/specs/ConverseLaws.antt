@@ -67,7 +67,7 @@ conversed {request} {b} {p} {m} {nops} {reader} {start} {s} {packets} f h rest c
     let there = restScene b p m in
     let fit = rest-keeps-fit restBudget (stateOf b p m) f in
     let whole : talk reader s packets ≡ talk (Closed (outcomeThere request there)) (stateThere request there) (packetsThere request there) =
-      talked ∙ ap (exchanged request) rest ∙ exchange-comes-to request h fit (comes-to-rest f) in
+    talked ∙ ap (exchanged request) rest ∙ exchange-comes-to request h fit (comes-to-rest f) in
     let number : packets ≡ packetsThere request there = ap (λ (t : Talk). t .packets) whole in
     record {
       answer = ap (λ (t : Talk). answerOf (t .reader) (nops + t .packets)) whole ∙ ap (λ n. Ended (outcomeThere request there) (n + packetsThere request there)) count;

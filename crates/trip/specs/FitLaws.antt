@@ -84,7 +84,7 @@ plain-alike b = record { w = refl; status = refl; registers = refl; csr = refl }
 
 control-alike : (t : Bool) (b : Board) (n v : ℕ)
     → Alike (cond t (withRegisters (plain b) (record { general = b .registers .general; control = set (b .registers .control) (controlPlace n) v })) (plain b))
-      (cond t (withRegisters b (record { general = b .registers .general; control = set (b .registers .control) (controlPlace n) v })) b)
+    (cond t (withRegisters b (record { general = b .registers .general; control = set (b .registers .control) (controlPlace n) v })) b)
 control-alike true b n v = record { w = refl; status = refl; registers = refl; csr = refl }
 control-alike false b n v = plain-alike b
 

@@ -46,7 +46,6 @@ addressSent request = addressIn (operandWords (commandOf request)) (taken noOper
 abbrev pub valueSent : Request → ℕ
 valueSent request = valueIn (operandWords (commandOf request)) (taken noOperands (operands request))
 
-
 pub work-is-meant : (request : Request) (s : Scene) → inRange request ≡ true → (commandOf request ≡ command.Unknown → ⊥)
     → Meant (commandOf request) (addressSent request) (valueSent request) (kindOf request) s (meaning request s)
 work-is-meant (Rdreg n) s h known =

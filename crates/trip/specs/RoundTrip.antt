@@ -32,9 +32,9 @@ use Rattle.trip.specs.MeantLaws.{legal-is-known, addressSent, valueSent,
 -- the closing replies, once the work is done
 told-as-meant : (request : Request) (s : Scene) (next : ℕ) → inRange request ≡ true → legalThere request s ≡ true → Sized s
     → Closes (kindOf request) (nops (closingReplies (kindOf request) (meaning request s .outcome))) First
-      (byPlan (Work (commandOf request) (addressSent request) (valueSent request)) (resting s next))
-      (meaning request s .outcome)
-      (resting (meaning request s .leaves) 0x0FFFF)
+    (byPlan (Work (commandOf request) (addressSent request) (valueSent request)) (resting s next))
+    (meaning request s .outcome)
+    (resting (meaning request s .leaves) 0x0FFFF)
 told-as-meant request s next h l z =
     let c = commandOf request in
     let k = kindOf request in
@@ -47,9 +47,9 @@ told-as-meant request s next h l z =
 -- the words after the command word
 pub legal-closes : (request : Request) (s : Scene) (next : ℕ) → inRange request ≡ true → legalThere request s ≡ true → Sized s
     → Closes (kindOf request) (operands request ++ nops (nopsAfter (s .board .w) request (meaning request s .outcome))) First
-      (stepped (resting s next) (commandWord request))
-      (meaning request s .outcome)
-      (resting (meaning request s .leaves) 0x0FFFF)
+    (stepped (resting s next) (commandWord request))
+    (meaning request s .outcome)
+    (resting (meaning request s .leaves) 0x0FFFF)
 legal-closes request s next h l z =
     let c = commandOf request in
     let k = kindOf request in
@@ -83,8 +83,8 @@ trip-of request words s outcome final h c =
 -- for every W: the place may hold any chain, pointer and next reply
 pub round-trip : (request : Request) (s : Scene) (next : ℕ) → inRange request ≡ true → legalThere request s ≡ true → Sized s
     → Trip request (builtWords request ++ nops (nopsAfter (s .board .w) request (meaning request s .outcome))) (resting s next)
-      (meaning request s .outcome)
-      (resting (meaning request s .leaves) 0x0FFFF)
+    (meaning request s .outcome)
+    (resting (meaning request s .leaves) 0x0FFFF)
 round-trip request s next h l z =
     let o = meaning request s .outcome in
     trip-of request (operands request ++ nops (nopsAfter (s .board .w) request o)) (resting s next) o (resting (meaning request s .leaves) 0x0FFFF) h (legal-closes request s next h l z)

@@ -108,8 +108,8 @@ module _ (c : Command) (phase : Phase) (s : State) where
       ap
       (λ (chain : Chain).
       stateOf (boardAfter c (s .board) address value)
-          (record { phase = phaseAfter ending; chain = chain; pointer = pointerAfter access (s .place .pointer); next = firstReply ending })
-          (memoryAfter c (s .memory) (s .place .pointer) address value))
+      (record { phase = phaseAfter ending; chain = chain; pointer = pointerAfter access (s .place .pointer); next = firstReply ending })
+      (memoryAfter c (s .memory) (s .place .pointer) address value))
       (after-during ending c (s .place .chain))
 
   ready-under : (k address value : ℕ) → byPlan (ready k c address value) (under c phase s) ≡ byPlan (ready k c address value) s

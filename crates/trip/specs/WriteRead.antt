@@ -22,7 +22,7 @@ module _ (m : List ℕ) (at v : ℕ) where
   word-back : at + 2 ≤ length m → wordAt (putWord m at v) at ≡ v % 65536
   word-back h =
       let upper : getD (putWord m at v) at 0 ≡ v / 256 % 256 =
-        getD-set-other (set m at (v / 256 % 256)) (at + 1) at (v % 256) 0 (λ e. omega arith) ∙ getD-set-same m at (v / 256 % 256) 0 (omega arith) in
+      getD-set-other (set m at (v / 256 % 256)) (at + 1) at (v % 256) 0 (λ e. omega arith) ∙ getD-set-same m at (v / 256 % 256) 0 (omega arith) in
       let lower : getD (putWord m at v) (at + 1) 0 ≡ v % 256 = getD-set-same (set m at (v / 256 % 256)) (at + 1) (v % 256) 0 (simp length-set (omega arith)) in
       rw (upper, lower) (omega arith)
 
@@ -30,9 +30,9 @@ module _ (m : List ℕ) (at v : ℕ) where
   word-apart =
       let l : List ℕ = set m (at + 2) (v / 256 % 256) in
       let upper : getD (putWord m (at + 2) v) at 0 ≡ getD m at 0 =
-        getD-set-other l (at + 2 + 1) at (v % 256) 0 (λ e. omega arith) ∙ getD-set-other m (at + 2) at (v / 256 % 256) 0 (λ e. omega arith) in
+      getD-set-other l (at + 2 + 1) at (v % 256) 0 (λ e. omega arith) ∙ getD-set-other m (at + 2) at (v / 256 % 256) 0 (λ e. omega arith) in
       let lower : getD (putWord m (at + 2) v) (at + 1) 0 ≡ getD m (at + 1) 0 =
-        getD-set-other l (at + 2 + 1) (at + 1) (v % 256) 0 (λ e. omega arith) ∙ getD-set-other m (at + 2) (at + 1) (v / 256 % 256) 0 (λ e. omega arith) in
+      getD-set-other l (at + 2 + 1) (at + 1) (v % 256) 0 (λ e. omega arith) ∙ getD-set-other m (at + 2) (at + 1) (v / 256 % 256) 0 (λ e. omega arith) in
       rw (upper, lower)
 
 pub stored-is-fetched : (size : Size) (m : List ℕ) (at v : ℕ) → at + bytes size ≤ length m → v < limit size → valueAt (putAt m size at v) size at ≡ v

@@ -1,4 +1,3 @@
-
 use borrow.Author.Needs.{needs}
 use Rattle.exchange.proofs.note_phase.Statement.{statement}
 use Rattle.exchange.proofs.note_phase.Tie as tie

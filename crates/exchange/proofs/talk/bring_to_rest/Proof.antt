@@ -7,8 +7,8 @@ use lib.ListN.{length}
 use Rattle.port.specs.Run.{stateOf}
 use Rattle.trip.specs.Exchange.{restBudget}
 use Rattle.trip.specs.Underway.{RestUnderway, rest-begins, rest-goes-on, rest-is-reached}
-use Rattle.exchange.proofs.bring_to_rest.Statement.{statement}
-use Rattle.exchange.proofs.bring_to_rest.Tie as tie
+use Rattle.exchange.proofs.talk.bring_to_rest.Statement.{statement}
+use Rattle.exchange.proofs.talk.bring_to_rest.Tie as tie
 
 abbrev Inv-loop : tie.InvT-loop
 Inv-loop memory₀ b₀ p₀ n₀ memory b p n = (length memory ≡ length memory₀) × RestUnderway n (stateOf b p memory) (stateOf b₀ p₀ memory₀)

@@ -7,8 +7,8 @@ use Rattle.port.specs.Run.{stateOf, stepped}
 use Rattle.trip.specs.Exchange.{talkBudget}
 use Rattle.trip.specs.Underway.{TalkUnderway, talk-begins, talk-goes-on, talk-is-closed, sent-clear}
 use Rattle.exchange.specs.SendLaws.{not-so, so-after-all}
-use Rattle.exchange.proofs.read_on.Statement.{statement}
-use Rattle.exchange.proofs.read_on.Tie as tie
+use Rattle.exchange.proofs.talk.read_on.Statement.{statement}
+use Rattle.exchange.proofs.talk.read_on.Tie as tie
 
 abbrev Inv-loop : tie.InvT-loop
 Inv-loop request words memory₀ reader₀ packets₀ b₀ p₀ memory reader packets b p = (length memory ≡ length memory₀) × TalkUnderway request packets reader (stateOf b p memory) (stateOf b₀ p₀ memory₀)

@@ -1,8 +1,8 @@
 use Rattle.grounds.specs.GroundLaws.{number-is-not-zero}
 use Rattle.exchange.specs.SendLaws.{fit-is-sent}
 use borrow.Author.Needs.{needs}
-use Rattle.exchange.proofs.send.Statement.{statement}
-use Rattle.exchange.proofs.send.Tie as tie
+use Rattle.exchange.proofs.talk.send.Statement.{statement}
+use Rattle.exchange.proofs.talk.send.Tie as tie
 
 take-packet-requires : tie.Need-take-packet-requires
 take-packet-requires c κs = search needs

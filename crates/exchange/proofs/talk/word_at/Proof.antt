@@ -1,8 +1,8 @@
 use mathlib.Core.Path.{sym}
 use lib.ListN.{List·getD-eq-default}
 use borrow.Author.Needs.{needs}
-use Rattle.exchange.proofs.word_at.Statement.{statement}
-use Rattle.exchange.proofs.word_at.Tie as tie
+use Rattle.exchange.proofs.talk.word_at.Statement.{statement}
+use Rattle.exchange.proofs.talk.word_at.Tie as tie
 
 mul-result : tie.Need-mul-result
 mul-result c = search needs

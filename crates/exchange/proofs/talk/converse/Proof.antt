@@ -6,8 +6,8 @@ use Rattle.trip.specs.FitLaws.{packet-keeps-fit}
 use Rattle.trip.specs.Underway.{fromCommand, sent-clear, exchange-closes}
 use Rattle.exchange.specs.SendLaws.{built-then-nops}
 use borrow.Author.Needs.{needs}
-use Rattle.exchange.proofs.converse.Statement.{statement}
-use Rattle.exchange.proofs.converse.Tie as tie
+use Rattle.exchange.proofs.talk.converse.Statement.{statement}
+use Rattle.exchange.proofs.talk.converse.Tie as tie
 
 slice-aggregate-build : tie.Need-slice-aggregate-build
 slice-aggregate-build c = search needs
