@@ -27,6 +27,7 @@ pub enum Exchanged {
     Refused(Ground),
 }
 
+// The answer, with the board and the place as they are left.
 pub struct Returned {
     pub answer: Exchanged,
     pub board: Board,
@@ -96,9 +97,9 @@ fn judge_exchange(request: Request, board: Board, place: Place, memory: &[u8]) -
     Verdict::Refused(Ground::RequestOutOfRange)
 }
 
-// A place that is not at rest is brought to rest with NOPs, which are counted. The request's words are sent until a reply closes it, then NOPs. After an illegal
-// command word one operand word has gone in with the reply that says so, and the port has taken it as a command word: no pod can help this, for the reply to
-// a word leaves with the next.
+// A place that is not at rest is brought to rest with NOPs, which are counted. Then the request's words go out one by one, and NOPs after them, until a reply
+// closes the request. The reply to a word leaves with the next: so after an illegal command word one operand word has gone in before the pod knows, and the port
+// has taken it as a command word, which no pod can help; the place may then be left in any phase.
 pub fn exchange(request: Request, board: Board, place: Place, memory: &mut [u8]) -> Returned
     ensures { λ r. ⌜ ExchangeMeets request board place (now (memory .entry)) r (now (memory .exit)) ⌝ }
 {
