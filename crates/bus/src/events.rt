@@ -2,13 +2,13 @@
 ghost use mathlib.Core.Path.{_≡_};
 ghost use Rattle.bus.specs.Firing.{bstatAfter, responds, firingOf, firing, ssm, captured, seen, statusAfter};
 ghost use Rattle.bus.specs.Events.{reservedSize, eventVerdict};
+use crate::Captured;
+use crate::Firing;
+use crate::Seen;
 use board::Board;
 use board::Debug;
 use board::Place;
 use board::Status;
-use crate::Captured;
-use crate::Firing;
-use crate::Seen;
 use grounds::Ground;
 use grounds::Verdict;
 use trigger::Bus;

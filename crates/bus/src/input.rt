@@ -1,9 +1,9 @@
 // The breakpoint input: what it does, and what it leaves of the status (01, "Events and firing").
 ghost use mathlib.Core.Path.{_≡_};
 ghost use Rattle.bus.specs.Breakpoint.{bkd, pressed, statusPressed};
+use crate::Pressed;
 use board::Debug;
 use board::Status;
-use crate::Pressed;
 
 fn is_bkd(debug: Debug) -> bool
     ensures { λ r. ⌜ r ≡ bkd debug ⌝ }

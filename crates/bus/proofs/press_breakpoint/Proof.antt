@@ -2,30 +2,20 @@ use Rattle.bus.specs.Events.{breakpointVerdict}
 use borrow.Author.Needs.{needs}
 use Rattle.bus.proofs.press_breakpoint.Statement.{statement}
 use Rattle.bus.proofs.press_breakpoint.Tie as tie
-use Rattle.bus.proofs.press_breakpoint.Reads as reads
-use Rattle.bus.proofs.press_breakpoint.Lts as lts
-use Rattle.board.proofs.is_in_range.Reads as is-in-range-reads
-use Rattle.bus.proofs.input.press.Reads as press-reads
-use Rattle.bus.proofs.input.status_pressed.Reads as status-pressed-reads
 
--- src/lib.rt:89:8
 is-in-range-requires : tie.Need-is-in-range-requires
 is-in-range-requires c κs = search needs
 
--- src/lib.rt:92:13
 press-requires : tie.Need-press-requires
 press-requires c κs = search needs
 
--- src/lib.rt:93:13
 status-pressed-requires : tie.Need-status-pressed-requires
 status-pressed-requires c κs = search needs
 
--- src/lib.rt:96:9
 returns : tie.Need-returns
 unfolding breakpointVerdict
 returns c = record { answer = rw (← c .before .before .before .before .before .is-in-range .ensures, c .before .before .before .before .if1 .taken, ← c .before .press .ensures); board = rw (← c .before .before .before .before .before .is-in-range .ensures, c .before .before .before .before .if1 .taken, ← c .before .press .ensures, ← c .status-pressed .ensures) }
 
--- src/lib.rt:86:1
 returns-2 : tie.Need-returns-2
 unfolding breakpointVerdict
 returns-2 c = record { answer = rw (← c .before .is-in-range .ensures, c .if1 .left); board = rw (← c .before .is-in-range .ensures, c .if1 .left) }

@@ -1,42 +1,28 @@
 use borrow.Author.Needs.{needs}
 use Rattle.bus.proofs.take_event.Statement.{statement}
 use Rattle.bus.proofs.take_event.Tie as tie
-use Rattle.bus.proofs.take_event.Reads as reads
-use Rattle.bus.proofs.take_event.Lts as lts
-use Rattle.bus.proofs.events.fire.Reads as fire-reads
-use Rattle.bus.proofs.events.judge_event.Reads as judge-event-reads
-use Rattle.bus.proofs.events.see.Reads as see-reads
-use Rattle.bus.proofs.events.status_after.Reads as status-after-reads
 
--- src/lib.rt:64:9
 judge-event-requires : tie.Need-judge-event-requires
 judge-event-requires c κs = search needs
 
--- src/lib.rt:66:26
 enum-known-verdict : tie.Need-enum-known-verdict
 enum-known-verdict c = search needs
 
--- src/lib.rt:71:17
 enum-told : tie.Need-enum-told
 enum-told c = search needs
 
--- src/lib.rt:73:17
 fire-requires : tie.Need-fire-requires
 fire-requires c κs = search needs
 
--- src/lib.rt:74:17
 see-requires : tie.Need-see-requires
 see-requires c κs = search needs
 
--- src/lib.rt:75:17
 status-after-requires : tie.Need-status-after-requires
 status-after-requires c κs = search needs
 
--- src/lib.rt:61:1
 returns : tie.Need-returns
 returns c = record { answer = rw (← c .before .before .before .judge-event .ensures, c .before .verdict .given .1); board = rw (← c .before .before .before .judge-event .ensures, c .before .verdict .given .1) }
 
--- src/lib.rt:61:1
 returns-2 : tie.Need-returns-2
 returns-2 c = record { answer = rw (← c .before .before .before .before .before .before .before .judge-event .ensures, c .before .before .before .before .before .enum-told .given .1, ← c .before .before .fire .ensures, ← c .before .see .ensures); board = rw (← c .before .before .before .before .before .before .before .judge-event .ensures, c .before .before .before .before .before .enum-told .given .1, ← c .before .before .fire .ensures, ← c .status-after .ensures) }
 

@@ -1,33 +1,24 @@
 use Rattle.bus.specs.Firing.{bstatAfter}
-use mathlib.Core.Path.{refl, sym, ap, _∙_}
 use borrow.Author.Tests.{eq-eqb, ne-eqb}
 use borrow.Author.Needs.{needs}
 use Rattle.bus.proofs.events.bstat_after.Statement.{statement}
 use Rattle.bus.proofs.events.bstat_after.Tie as tie
-use Rattle.bus.proofs.events.bstat_after.Reads as reads
-use Rattle.bus.proofs.events.bstat_after.Lts as lts
-use Rattle.trigger.proofs.levels.level_two.Reads as level-two-reads
 
--- src/events.rt:21:13
 level-two-requires : tie.Need-level-two-requires
 level-two-requires c κs = search needs
 
--- src/events.rt:23:13
 returns : tie.Need-returns
 unfolding bstatAfter
 returns c = rw (eq-eqb _ _ (c .before .before .if1 .taken), ← c .before .level-two .ensures, c .if2 .taken)
 
--- src/events.rt:25:9
 returns-2 : tie.Need-returns-2
 unfolding bstatAfter
 returns-2 c = rw (eq-eqb _ _ (c .before .before .if1 .taken), ← c .before .level-two .ensures, c .if2 .left)
 
--- src/events.rt:28:9
 returns-3 : tie.Need-returns-3
 unfolding bstatAfter
 returns-3 c = rw (ne-eqb _ _ (c .before .if1 .left), eq-eqb _ _ (c .if3 .taken))
 
--- src/events.rt:17:1
 returns-4 : tie.Need-returns-4
 unfolding bstatAfter
 returns-4 c = rw (ne-eqb _ _ (c .before .if1 .left), ne-eqb _ _ (c .if3 .left))

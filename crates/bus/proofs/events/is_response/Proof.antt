@@ -1,11 +1,8 @@
 use Rattle.bus.specs.Firing.{responds}
-use mathlib.Core.Path.{refl, sym, ap, _∙_}
+use mathlib.Core.Path.{refl}
 use Rattle.bus.proofs.events.is_response.Statement.{statement}
 use Rattle.bus.proofs.events.is_response.Tie as tie
-use Rattle.bus.proofs.events.is_response.Reads as reads
-use Rattle.bus.proofs.events.is_response.Lts as lts
 
--- src/events.rt:33:1
 returns : tie.Need-returns
 unfolding responds
 returns c = refl
