@@ -1,14 +1,11 @@
 // The bench around the board: its lines answered, as the desk's language has them for stand_in and talk.
 use board::Board;
-use board::Chain;
-use board::Phase;
 use board::Place;
 use bus::BreakpointOutcome;
 use bus::Captured;
 use bus::EventOutcome;
 use bus::Pressed;
 use bus::Seen;
-use grounds::Ground;
 use grounds::Verdict;
 use lines::BoardLine;
 use port::Outcome;
@@ -45,12 +42,6 @@ pub fn opened() -> Bench {
     }
 }
 
-pub fn put_refusal(text: &mut [u8], ground: Ground) -> usize {
-    let at = console::put_text(text, 0, b"refused ");
-    let at = console::put_decimal(text, at, grounds::number_of(ground));
-    console::put_text(text, at, b" at 0")
-}
-
 fn put_flag(text: &mut [u8], at: usize, flag: bool) -> usize {
     if flag {
         return console::put_byte(text, at, b'1');
@@ -74,7 +65,7 @@ fn make(w: u32, bench: Bench, text: &mut [u8]) -> Answered {
         },
         Verdict::Refused(ground) => Answered {
             bench: bench,
-            end: put_refusal(text, ground),
+            end: console::put_refusal(text, ground),
         },
     }
 }
@@ -232,7 +223,7 @@ fn put_reply(text: &mut [u8], outcome: Outcome) -> usize {
             let at = console::put_text(text, 0, b"reply ");
             console::put_hex(text, at, reply, 5)
         }
-        Outcome::Refusing(ground) => put_refusal(text, ground),
+        Outcome::Refusing(ground) => console::put_refusal(text, ground),
     }
 }
 
@@ -263,7 +254,7 @@ fn put_seen(text: &mut [u8], seen: Seen) -> usize {
 
 fn put_event(text: &mut [u8], outcome: EventOutcome) -> usize {
     match outcome {
-        EventOutcome::Refused(ground) => put_refusal(text, ground),
+        EventOutcome::Refused(ground) => console::put_refusal(text, ground),
         EventOutcome::Taken(seen) => put_seen(text, seen),
     }
 }
@@ -292,7 +283,7 @@ fn put_pressed(text: &mut [u8], pressed: Pressed) -> usize {
 
 fn put_breakpoint(text: &mut [u8], outcome: BreakpointOutcome) -> usize {
     match outcome {
-        BreakpointOutcome::Refused(ground) => put_refusal(text, ground),
+        BreakpointOutcome::Refused(ground) => console::put_refusal(text, ground),
         BreakpointOutcome::Taken(pressed) => put_pressed(text, pressed),
     }
 }

@@ -3,8 +3,10 @@ ghost use mathlib.Core.Path.{_≡_};
 ghost use Prim.Native.Nat.{_≤_};
 ghost use lib.ListN.{length, set};
 ghost use Rattle.console.specs.Text.{placed};
+use grounds::Ground;
 use libc::STDIN_FILENO;
 use libc::STDOUT_FILENO;
+use requests::Outcome;
 
 // The part of the source that was read and not yet taken.
 pub struct Feed {
@@ -167,6 +169,26 @@ pub fn put_decimal(text: &mut [u8], at: usize, value: u32) -> usize {
         return put_text(text, at, &digits[..count]);
     }
     at
+}
+
+// `refused N at 0`
+pub fn put_refusal(text: &mut [u8], ground: Ground) -> usize {
+    let at = put_text(text, 0, b"refused ");
+    let at = put_decimal(text, at, grounds::number_of(ground));
+    put_text(text, at, b" at 0")
+}
+
+// What a request came to.
+pub fn put_outcome(text: &mut [u8], outcome: Outcome) -> usize {
+    match outcome {
+        Outcome::Value(value) => {
+            let at = put_text(text, 0, b"value ");
+            put_hex(text, at, value, 8)
+        }
+        Outcome::Complete => put_text(text, 0, b"complete"),
+        Outcome::BusError => put_text(text, 0, b"bus-error"),
+        Outcome::Illegal => put_text(text, 0, b"illegal"),
+    }
 }
 
 // Writes the text up to a place, and a line end.
