@@ -1,0 +1,4 @@
+pub mod Request
+pub mod Words
+pub mod Building
+pub mod WordLaws
