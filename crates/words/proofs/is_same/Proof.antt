@@ -1,0 +1,69 @@
+use Prim.Native.Nat.{_-_, _≤_}
+use mathlib.Core.Path.{_≡_, refl, sym, _∙_}
+use native.Mathlib.Omega.{arith}
+use borrow.Author.Needs.{needs}
+use lib.ListN.{length, drop}
+use Rattle.words.specs.Words.{same}
+use Rattle.words.specs.WordLaws.{same-length, same-differs, same-goes-on, same-ends}
+use Rattle.words.proofs.is_same.Statement.{statement}
+use Rattle.words.proofs.is_same.Tie as tie
+use Rattle.words.proofs.is_same.Reads as reads
+use Rattle.words.proofs.is_same.Lts as lts
+
+abbrev Inv-loop : tie.InvT-loop
+Inv-loop word name i₀ i = (i ≤ length word) × (same word name ≡ same (drop i word) (drop i name))
+
+abbrev μ-loop : tie.MeasureT-loop
+μ-loop word name i₀ i = length word - i
+
+-- src/lib.rt:72:9
+returns : tie.Need-returns Inv-loop μ-loop
+returns c = sym (same-length (c .before .args .word .now) (c .before .args .name .now) (c .if1 .taken))
+
+-- src/lib.rt:75:5
+loop-holds : tie.Need-loop-holds Inv-loop μ-loop
+loop-holds c = (omega arith, refl)
+
+-- src/lib.rt:76:12
+shared-slice-read-if2 : tie.Need-shared-slice-read-if2 Inv-loop μ-loop
+shared-slice-read-if2 c = search needs
+
+-- src/lib.rt:76:23
+shared-slice-read-if2-2 : tie.Need-shared-slice-read-if2-2 Inv-loop μ-loop
+shared-slice-read-if2-2 c = omega arith
+
+-- src/lib.rt:77:13
+returns-2 : tie.Need-returns-2 Inv-loop μ-loop
+returns-2 c = sym (c .before .before .before .before .loop .inv .1 ∙ same-differs (c .before .before .before .before .before .before .args .word .now) (c .before .before .before .before .before .before .args .name .now) (c .before .before .before .before .loop .i) (c .before .before .before .loop-test .taken) (omega arith) (c .if2 .taken))
+
+-- src/lib.rt:79:9
+add-i : tie.Need-add-i Inv-loop μ-loop
+add-i c = search needs
+
+-- src/lib.rt:75:5
+loop-less : tie.Need-loop-less Inv-loop μ-loop
+loop-less c = search needs
+
+-- src/lib.rt:75:5
+loop-again : tie.Need-loop-again Inv-loop μ-loop
+loop-again c = (omega arith, c .before .before .before .before .loop .inv .1 ∙ same-goes-on (c .before .before .before .before .before .before .args .word .now) (c .before .before .before .before .before .before .args .name .now) (c .before .before .before .before .loop .i) (c .before .before .before .loop-test .taken) (omega arith) (c .if2 .left))
+
+-- src/lib.rt:68:1
+returns-3 : tie.Need-returns-3 Inv-loop μ-loop
+returns-3 c = sym (c .before .loop .inv .1 ∙ same-ends (c .before .before .before .args .word .now) (c .before .before .before .args .name .now) (c .before .loop .i) (c .loop-test .left) (omega arith))
+
+pub is-same-spec : {M : Type 1} → statement M
+is-same-spec =
+    tie.close
+    (tie.spec
+    Inv-loop
+    μ-loop
+    returns
+    loop-holds
+    shared-slice-read-if2
+    shared-slice-read-if2-2
+    returns-2
+    add-i
+    loop-less
+    loop-again
+    returns-3)

@@ -1,0 +1,106 @@
+use lib.ListN.{length, take, drop}
+use Rattle.words.specs.Numbers.{isNumeral}
+use mathlib.Core.Path.{_≡_, refl, sym, ap, _∙_}
+use native.Mathlib.Omega.{arith}
+use borrow.Author.Needs.{needs}
+use Prim.Native.Nat.{_+_, _-_, _≤_}
+use lib.ListN.{length, drop}
+use Rattle.words.specs.Words.{wordsAfter}
+use Rattle.words.specs.WordLaws.{word-end-bound, after-word, after-out}
+use mathlib.Core.Bool.{true}
+use lib.Seq.{sets}
+use Rattle.words.specs.Taking.{allNumerals, values}
+use Rattle.words.specs.TakingLaws.{put-goes-on}
+use Rattle.words.proofs.number.put_numbers.Statement.{statement}
+use Rattle.words.proofs.number.put_numbers.Tie as tie
+use Rattle.words.proofs.number.put_numbers.Reads as reads
+use Rattle.words.proofs.number.put_numbers.Lts as lts
+use Rattle.words.proofs.number.value_of.Reads as value-of-reads
+use Rattle.words.proofs.word_end.Reads as word-end-reads
+
+abbrev Inv-loop : tie.InvT-loop
+Inv-loop line end buffer₀ count₀ at₀ buffer count at =
+    (length buffer ≡ length buffer₀)
+    × ((allNumerals (wordsAfter line at) ≡ true)
+    × ((count + length (wordsAfter line at) ≤ length buffer)
+    × (sets buffer₀ 0 (values (wordsAfter line end)) ≡ sets buffer count (values (wordsAfter line at)))))
+
+abbrev μ-loop : tie.MeasureT-loop
+μ-loop line end buffer₀ count₀ at₀ buffer count at = length line - at
+
+-- src/number.rt:148:5
+loop-holds : tie.Need-loop-holds Inv-loop μ-loop
+loop-holds c = (refl, (c .before .before .pre .0, (omega arith, refl)))
+
+-- src/number.rt:149:21
+add-start : tie.Need-add-start Inv-loop μ-loop
+add-start c = search needs
+
+-- src/number.rt:150:13
+word-end-requires : tie.Need-word-end-requires Inv-loop μ-loop
+word-end-requires c κs = search needs
+
+-- src/number.rt:151:34
+sub-value-of : tie.Need-sub-value-of Inv-loop μ-loop
+sub-value-of c = search needs
+
+-- src/number.rt:151:34
+part-value-of-start : tie.Need-part-value-of-start Inv-loop μ-loop
+part-value-of-start c = search needs
+
+-- src/number.rt:151:34
+part-value-of-end : tie.Need-part-value-of-end Inv-loop μ-loop
+part-value-of-end c = word-end-bound (c .before .before .before .before .before .args .line .now) (c .before .before .loop .at + 1) (c .word-end .result) (omega arith) (c .word-end .ensures)
+
+-- src/number.rt:151:25
+value-of-requires : tie.Need-value-of-requires Inv-loop μ-loop
+value-of-requires c κs = let line = c .before .before .before .before .before .before .args .line .now in let at = c .before .before .before .loop .at in let stop = c .before .word-end .result in let cut = after-word line at stop (c .before .before .loop-test .taken) (c .before .word-end .ensures) in and-left (isNumeral (take (stop - (at + 1)) (drop (at + 1) line))) (allNumerals (wordsAfter line stop)) (rw cut at (c .before .before .before .loop .inv .1 .0))
+
+-- src/number.rt:151:9
+mul-buffer : tie.Need-mul-buffer Inv-loop μ-loop
+mul-buffer c = ?
+
+-- src/number.rt:151:9
+slice-write-buffer : tie.Need-slice-write-buffer Inv-loop μ-loop
+slice-write-buffer c = ?
+
+-- src/number.rt:152:9
+add-count : tie.Need-add-count Inv-loop μ-loop
+add-count c = ?
+
+-- src/number.rt:148:5
+loop-less : tie.Need-loop-less Inv-loop μ-loop
+loop-less c = omega (arith, c .before .before .word-end .ensures)
+
+-- src/number.rt:148:5
+loop-again : tie.Need-loop-again Inv-loop μ-loop
+loop-again c = let line = c .before .before .before .before .before .before .before .args .line .now in let at = c .before .before .before .before .loop .at in let stop = c .before .before .word-end .result in let cut = after-word line at stop (c .before .before .before .loop-test .taken) (c .before .before .word-end .ensures) in ?
+
+-- src/number.rt:142:1
+same-length : tie.Need-same-length Inv-loop μ-loop
+same-length c = ?
+
+-- src/number.rt:142:1
+returns : tie.Need-returns Inv-loop μ-loop
+returns c = ?
+
+pub put-numbers-spec : {M : Type 1} → statement M
+put-numbers-spec =
+    tie.close
+    (tie.spec
+    Inv-loop
+    μ-loop
+    loop-holds
+    add-start
+    word-end-requires
+    sub-value-of
+    part-value-of-start
+    part-value-of-end
+    value-of-requires
+    mul-buffer
+    slice-write-buffer
+    add-count
+    loop-less
+    loop-again
+    same-length
+    returns)
