@@ -1,5 +1,5 @@
 -- Laws of taking numbers: counting and putting them one by one.
-use Prim.Native.Nat.{ℕ, suc, _+_, _≤_}
+use Prim.Native.Nat.{ℕ, suc, _+_, _≤_, _<_}
 use native.Mathlib.Omega.{arith}
 use native.Mathlib.Nat.{zero-add, add-suc, suc-add, add-zero}
 use native.Mathlib.Numerals.{add-one}
@@ -8,10 +8,11 @@ use mathlib.Core.Bool.{Bool, true, false, cond, _&&_}
 use mathlib.Core.List.{List, [], _∷_, _++_}
 use lib.ListN.{length, drop, set}
 use lib.Seq.{sets, sets-eq}
+use borrow.Author.Tests.{le-leb, lt-leb}
 use Rattle.words.specs.declared.Taken.{Taken}
 use Rattle.words.specs.declared.Taken.the-variants.{Count, TooMany, NotAllNumbers}
 use Rattle.words.specs.Numbers.{value, isNumeral}
-use Rattle.words.specs.Taking.{allNumerals, values, counted}
+use Rattle.words.specs.Taking.{allNumerals, values, counted, taken, TakingMeets}
 
 -- counting on from a count
 abbrev pub countedFrom : ℕ → List (List ℕ) → Taken
@@ -53,3 +54,20 @@ first-numeral word words e = by-test (isNumeral word) e
     by-test : (t : Bool) → t && allNumerals words ≡ true → (t ≡ true) × (allNumerals words ≡ true)
     by-test true e = (refl, e)
     by-test false e = (e, cc)
+
+-- the promise, for each way that taking goes
+module _ (words : List (List ℕ)) (before : List ℕ) (n : ℕ) where
+  pub takes-all : counted words ≡ Count n → n ≤ length before → (after : List ℕ) → after ≡ sets before 0 (values words) → TakingMeets words before (Count n) after
+  takes-all e h after p =
+      let l : length words ≡ n = count-tells words n e .1 in
+      record { answer = rw (e, le-leb n (length before) h); buffer = p ∙ put-all words before (omega arith) ∙ rw (e, l, le-leb n (length before) h) }
+
+  pub takes-none : counted words ≡ Count n → length before < n → TakingMeets words before TooMany before
+  takes-none e h = record { answer = rw (e, lt-leb n (length before) h); buffer = rw (e, lt-leb n (length before) h) }
+
+module _ (words : List (List ℕ)) (before : List ℕ) where
+  pub takes-none-of-too-many : counted words ≡ TooMany → TakingMeets words before TooMany before
+  takes-none-of-too-many e = record { answer = rw e; buffer = rw e }
+
+  pub takes-none-of-others : counted words ≡ NotAllNumbers → TakingMeets words before NotAllNumbers before
+  takes-none-of-others e = record { answer = rw e; buffer = rw e }

@@ -1,3 +1,5 @@
+use lib.ListN.{length-set}
+use Rattle.words.specs.TakingLaws.{put-goes-on, first-numeral}
 use lib.ListN.{length, take, drop}
 use Rattle.words.specs.Numbers.{isNumeral}
 use mathlib.Core.Path.{_≡_, refl, sym, ap, _∙_}
@@ -54,19 +56,19 @@ part-value-of-end c = word-end-bound (c .before .before .before .before .before 
 
 -- src/number.rt:151:25
 value-of-requires : tie.Need-value-of-requires Inv-loop μ-loop
-value-of-requires c κs = let line = c .before .before .before .before .before .before .args .line .now in let at = c .before .before .before .loop .at in let stop = c .before .word-end .result in let cut = after-word line at stop (c .before .before .loop-test .taken) (c .before .word-end .ensures) in and-left (isNumeral (take (stop - (at + 1)) (drop (at + 1) line))) (allNumerals (wordsAfter line stop)) (rw cut at (c .before .before .before .loop .inv .1 .0))
+value-of-requires c κs = let line = c .before .before .before .before .before .before .args .line .now in let at = c .before .before .before .loop .at in let stop = c .before .word-end .result in let cut = after-word line at stop (c .before .before .loop-test .taken) (c .before .word-end .ensures) in first-numeral (take (stop - (at + 1)) (drop (at + 1) line)) (wordsAfter line stop) (rw cut at (c .before .before .before .loop .inv .1 .0)) .0
 
 -- src/number.rt:151:9
 mul-buffer : tie.Need-mul-buffer Inv-loop μ-loop
-mul-buffer c = ?
+mul-buffer c = let line = c .before .before .before .before .before .before .before .args .line .now in let at = c .before .before .before .before .loop .at in let stop = c .before .before .word-end .result in let cut = after-word line at stop (c .before .before .before .loop-test .taken) (c .before .before .word-end .ensures) in omega (arith, rw cut at (c .before .before .before .before .loop .inv .1 .1 .0), c .before .before .before .before .loop .inv .0)
 
 -- src/number.rt:151:9
 slice-write-buffer : tie.Need-slice-write-buffer Inv-loop μ-loop
-slice-write-buffer c = ?
+slice-write-buffer c = let line = c .before .before .before .before .before .before .before .args .line .now in let at = c .before .before .before .before .loop .at in let stop = c .before .before .word-end .result in let cut = after-word line at stop (c .before .before .before .loop-test .taken) (c .before .before .word-end .ensures) in omega (arith, rw cut at (c .before .before .before .before .loop .inv .1 .1 .0), c .before .before .before .before .loop .inv .0)
 
 -- src/number.rt:152:9
 add-count : tie.Need-add-count Inv-loop μ-loop
-add-count c = ?
+add-count c = let line = c .before .before .before .before .before .before .before .args .line .now in let at = c .before .before .before .before .loop .at in let stop = c .before .before .word-end .result in let cut = after-word line at stop (c .before .before .before .loop-test .taken) (c .before .before .word-end .ensures) in omega (arith, rw cut at (c .before .before .before .before .loop .inv .1 .1 .0), c .before .before .before .before .loop .inv .0)
 
 -- src/number.rt:148:5
 loop-less : tie.Need-loop-less Inv-loop μ-loop
@@ -74,15 +76,15 @@ loop-less c = omega (arith, c .before .before .word-end .ensures)
 
 -- src/number.rt:148:5
 loop-again : tie.Need-loop-again Inv-loop μ-loop
-loop-again c = let line = c .before .before .before .before .before .before .before .args .line .now in let at = c .before .before .before .before .loop .at in let stop = c .before .before .word-end .result in let cut = after-word line at stop (c .before .before .before .loop-test .taken) (c .before .before .word-end .ensures) in ?
+loop-again c = let line = c .before .before .before .before .before .before .before .args .line .now in let at = c .before .before .before .before .loop .at in let stop = c .before .before .word-end .result in let cut = after-word line at stop (c .before .before .before .loop-test .taken) (c .before .before .word-end .ensures) in (simp length-set (c .before .before .before .before .loop .inv .0), (first-numeral (take (stop - (at + 1)) (drop (at + 1) line)) (wordsAfter line stop) (rw cut at (c .before .before .before .before .loop .inv .1 .0)) .1, (simp length-set (omega (arith, rw cut at (c .before .before .before .before .loop .inv .1 .1 .0), c .before .before .before .before .loop .inv .0)), c .before .before .before .before .loop .inv .1 .1 .1 ∙ rw (cut, c .value-of .ensures) (put-goes-on (c .before .before .before .before .loop .buffer) (c .before .before .before .before .loop .count) (take (stop - (at + 1)) (drop (at + 1) line)) (wordsAfter line stop)))))
 
 -- src/number.rt:142:1
 same-length : tie.Need-same-length Inv-loop μ-loop
-same-length c = ?
+same-length c = c .before .loop .inv .0
 
 -- src/number.rt:142:1
 returns : tie.Need-returns Inv-loop μ-loop
-returns c = ?
+returns c = sym (c .before .loop .inv .1 .1 .1 ∙ rw (after-out (c .before .before .before .before .args .line .now) (c .before .loop .at) (c .loop-test .left)))
 
 pub put-numbers-spec : {M : Type 1} → statement M
 put-numbers-spec =

@@ -1,3 +1,8 @@
+use Rattle.words.specs.TakingLaws.{takes-none-of-too-many, takes-none-of-others}
+use mathlib.Core.Path.{_≡_, refl, sym, ap, _∙_}
+use native.Mathlib.Omega.{arith}
+use Rattle.words.specs.Words.{wordsAfter}
+use Rattle.words.specs.TakingLaws.{count-tells, takes-all, takes-none}
 use borrow.Author.Needs.{needs}
 use Rattle.words.proofs.number.take_numbers.Statement.{statement}
 use Rattle.words.proofs.number.take_numbers.Tie as tie
@@ -16,7 +21,7 @@ enum-known-count c = search needs
 
 -- src/number.rt:164:17
 put-numbers-requires : tie.Need-put-numbers-requires
-put-numbers-requires c κs = ?
+put-numbers-requires c κs = let told = count-tells (wordsAfter (c .before .before .before .before .before .before .before .before .args .line .now) (c .before .before .before .before .before .before .before .before .args .end)) (c .before .before .before .count .given .0 .0) (sym (c .before .before .before .before .before .count-numbers .ensures) ∙ c .before .before .before .count .given .1) in (told .0, omega arith)
 
 -- src/number.rt:165:17
 same-length : tie.Need-same-length
@@ -24,7 +29,7 @@ same-length c = search needs
 
 -- src/number.rt:165:17
 returns : tie.Need-returns
-returns c = ?
+returns c = takes-all (wordsAfter (c .before .before .before .before .before .before .before .before .before .before .before .args .line .now) (c .before .before .before .before .before .before .before .before .before .before .before .args .end)) (c .before .before .before .before .before .before .before .before .before .before .before .args .buffer .now) (c .before .before .before .before .before .before .count .given .0 .0) (sym (c .before .before .before .before .before .before .before .before .count-numbers .ensures) ∙ c .before .before .before .before .before .before .count .given .1) (c .before .before .before .before .if1 .taken) _ (c .before .before .put-numbers .ensures)
 
 -- src/number.rt:169:27
 enum-told : tie.Need-enum-told
@@ -36,15 +41,15 @@ enum-told-2 c = search needs
 
 -- src/number.rt:158:1
 returns-2 : tie.Need-returns-2
-returns-2 c = ?
+returns-2 c = takes-none (wordsAfter (c .before .before .before .before .before .before .before .args .line .now) (c .before .before .before .before .before .before .before .args .end)) (c .before .before .before .before .before .before .before .args .buffer .now) (c .before .before .count .given .0 .0) (sym (c .before .before .before .before .count-numbers .ensures) ∙ c .before .before .count .given .1) (c .if1 .left)
 
 -- src/number.rt:158:1
 returns-3 : tie.Need-returns-3
-returns-3 c = ?
+returns-3 c = takes-none-of-too-many (wordsAfter (c .before .before .before .before .before .args .line .now) (c .before .before .before .before .before .args .end)) (c .before .before .before .before .before .args .buffer .now) (sym (c .before .before .count-numbers .ensures) ∙ c .enum-told .given .1)
 
 -- src/number.rt:158:1
 returns-4 : tie.Need-returns-4
-returns-4 c = ?
+returns-4 c = takes-none-of-others (wordsAfter (c .before .before .before .before .before .args .line .now) (c .before .before .before .before .before .args .end)) (c .before .before .before .before .before .args .buffer .now) (sym (c .before .before .count-numbers .ensures) ∙ c .enum-told2 .given .1)
 
 pub take-numbers-spec : {M : Type 1} → statement M
 take-numbers-spec =
