@@ -5,3 +5,4 @@ pub mod Board
 pub mod Talk
 pub mod Pod
 pub mod PodLaws
+pub mod Examples

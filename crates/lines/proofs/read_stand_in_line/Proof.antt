@@ -1,44 +1,31 @@
-use mathlib.Core.Path.{refl, sym, ap, _∙_}
 use Rattle.lines.specs.Board.{boardLine}
 use borrow.Author.Needs.{needs}
 use Rattle.lines.proofs.read_stand_in_line.Statement.{statement}
 use Rattle.lines.proofs.read_stand_in_line.Tie as tie
-use Rattle.lines.proofs.read_stand_in_line.Reads as reads
-use Rattle.lines.proofs.read_stand_in_line.Lts as lts
-use Rattle.lines.proofs.board.read_words.Reads as read-words-reads
-use Rattle.words.proofs.kind_of.Reads as kind-of-reads
 
--- src/lib.rt:66:11
 kind-of-requires : tie.Need-kind-of-requires
 kind-of-requires c κs = search needs
 
--- src/lib.rt:67:29
 enum-told : tie.Need-enum-told
 enum-told c = search needs
 
--- src/lib.rt:68:28
 enum-told-2 : tie.Need-enum-told-2
 enum-told-2 c = search needs
 
--- src/lib.rt:68:28
 read-words-requires : tie.Need-read-words-requires
 read-words-requires c κs = search needs
 
--- src/lib.rt:69:30
 enum-told-3 : tie.Need-enum-told-3
 enum-told-3 c = search needs
 
--- src/lib.rt:63:1
 returns : tie.Need-returns
 unfolding boardLine
 returns c = rw (← c .before .before .kind-of .ensures, c .enum-told .given .1)
 
--- src/lib.rt:63:1
 returns-2 : tie.Need-returns-2
 unfolding boardLine
 returns-2 c = rw (← c .before .before .before .kind-of .ensures, c .before .enum-told2 .given .1, ← c .read-words .ensures)
 
--- src/lib.rt:63:1
 returns-3 : tie.Need-returns-3
 unfolding boardLine
 returns-3 c = rw (← c .before .before .kind-of .ensures, c .enum-told3 .given .1)

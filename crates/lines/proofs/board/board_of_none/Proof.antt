@@ -1,39 +1,28 @@
-use mathlib.Core.Path.{refl, sym, ap, _∙_}
 use Rattle.lines.specs.Board.{boardOfNone}
 use borrow.Author.Needs.{needs}
 use Rattle.lines.proofs.board.board_of_none.Statement.{statement}
 use Rattle.lines.proofs.board.board_of_none.Tie as tie
-use Rattle.lines.proofs.board.board_of_none.Reads as reads
-use Rattle.lines.proofs.board.board_of_none.Lts as lts
-use Rattle.words.proofs.is_same.Reads as is-same-reads
 
--- src/board.rt:44:29
 slice-aggregate-is-same : tie.Need-slice-aggregate-is-same
 slice-aggregate-is-same c = search needs
 
--- src/board.rt:44:8
 is-same-requires : tie.Need-is-same-requires
 is-same-requires c κs = search needs
 
--- src/board.rt:45:9
 returns : tie.Need-returns
 unfolding boardOfNone
 returns c = rw (← c .before .is-same .ensures, c .if1 .taken)
 
--- src/board.rt:47:29
 slice-aggregate-is-same-2 : tie.Need-slice-aggregate-is-same-2
 slice-aggregate-is-same-2 c = search needs
 
--- src/board.rt:47:8
 is-same-requires-2 : tie.Need-is-same-requires-2
 is-same-requires-2 c κs = search needs
 
--- src/board.rt:48:9
 returns-2 : tie.Need-returns-2
 unfolding boardOfNone
 returns-2 c = rw (← c .before .before .before .before .is-same .ensures, c .before .before .before .if1 .left, ← c .before .is-same2 .ensures, c .if2 .taken)
 
--- src/board.rt:41:1
 returns-3 : tie.Need-returns-3
 unfolding boardOfNone
 returns-3 c = rw (← c .before .before .before .before .is-same .ensures, c .before .before .before .if1 .left, ← c .before .is-same2 .ensures, c .if2 .left)

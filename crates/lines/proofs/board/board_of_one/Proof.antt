@@ -1,70 +1,51 @@
-use mathlib.Core.Path.{refl, sym, ap, _∙_}
 use Rattle.lines.specs.Board.{boardOfOne}
 use borrow.Author.Needs.{needs}
 use Rattle.lines.proofs.board.board_of_one.Statement.{statement}
 use Rattle.lines.proofs.board.board_of_one.Tie as tie
-use Rattle.lines.proofs.board.board_of_one.Reads as reads
-use Rattle.lines.proofs.board.board_of_one.Lts as lts
-use Rattle.lines.proofs.board.memory_line.Reads as memory-line-reads
-use Rattle.words.proofs.is_same.Reads as is-same-reads
 
--- src/board.rt:56:29
 slice-aggregate-is-same : tie.Need-slice-aggregate-is-same
 slice-aggregate-is-same c = search needs
 
--- src/board.rt:56:8
 is-same-requires : tie.Need-is-same-requires
 is-same-requires c κs = search needs
 
--- src/board.rt:57:9
 returns : tie.Need-returns
 unfolding boardOfOne
 returns c = rw (← c .before .is-same .ensures, c .if1 .taken)
 
--- src/board.rt:59:29
 slice-aggregate-is-same-2 : tie.Need-slice-aggregate-is-same-2
 slice-aggregate-is-same-2 c = search needs
 
--- src/board.rt:59:8
 is-same-requires-2 : tie.Need-is-same-requires-2
 is-same-requires-2 c κs = search needs
 
--- src/board.rt:60:9
 memory-line-requires : tie.Need-memory-line-requires
 memory-line-requires c κs = search needs
 
--- src/board.rt:60:9
 returns-2 : tie.Need-returns-2
 unfolding boardOfOne
 returns-2 c = rw (← c .before .before .before .before .before .is-same .ensures, c .before .before .before .before .if1 .left, ← c .before .before .is-same2 .ensures, c .before .if2 .taken, ← c .memory-line .ensures)
 
--- src/board.rt:62:29
 slice-aggregate-is-same-3 : tie.Need-slice-aggregate-is-same-3
 slice-aggregate-is-same-3 c = search needs
 
--- src/board.rt:62:8
 is-same-requires-3 : tie.Need-is-same-requires-3
 is-same-requires-3 c κs = search needs
 
--- src/board.rt:63:9
 returns-3 : tie.Need-returns-3
 unfolding boardOfOne
 returns-3 c = rw (← c .before .before .before .before .before .before .before .is-same .ensures, c .before .before .before .before .before .before .if1 .left, ← c .before .before .before .before .is-same2 .ensures, c .before .before .before .if2 .left, ← c .before .is-same3 .ensures, c .if3 .taken)
 
--- src/board.rt:65:29
 slice-aggregate-is-same-4 : tie.Need-slice-aggregate-is-same-4
 slice-aggregate-is-same-4 c = search needs
 
--- src/board.rt:65:8
 is-same-requires-4 : tie.Need-is-same-requires-4
 is-same-requires-4 c κs = search needs
 
--- src/board.rt:66:9
 returns-4 : tie.Need-returns-4
 unfolding boardOfOne
 returns-4 c = rw (← c .before .before .before .before .before .before .before .before .before .before .is-same .ensures, c .before .before .before .before .before .before .before .before .before .if1 .left, ← c .before .before .before .before .before .before .before .is-same2 .ensures, c .before .before .before .before .before .before .if2 .left, ← c .before .before .before .before .is-same3 .ensures, c .before .before .before .if3 .left, ← c .before .is-same4 .ensures, c .if4 .taken)
 
--- src/board.rt:53:1
 returns-5 : tie.Need-returns-5
 unfolding boardOfOne
 returns-5 c = rw (← c .before .before .before .before .before .before .before .before .before .before .is-same .ensures, c .before .before .before .before .before .before .before .before .before .if1 .left, ← c .before .before .before .before .before .before .before .is-same2 .ensures, c .before .before .before .before .before .before .if2 .left, ← c .before .before .before .before .is-same3 .ensures, c .before .before .before .if3 .left, ← c .before .is-same4 .ensures, c .if4 .left)

@@ -1,15 +1,10 @@
-use mathlib.Core.Path.{refl, sym, ap, _∙_}
 use borrow.Author.Tests.{le-leb, lt-leb}
 use Rattle.lines.proofs.board.event_line.Statement.{statement}
 use Rattle.lines.proofs.board.event_line.Tie as tie
-use Rattle.lines.proofs.board.event_line.Reads as reads
-use Rattle.lines.proofs.board.event_line.Lts as lts
 
--- src/board.rt:36:9
 returns : tie.Need-returns
 returns c = rw (le-leb _ _ (c .if1 .taken))
 
--- src/board.rt:32:1
 returns-2 : tie.Need-returns-2
 returns-2 c = rw (lt-leb _ _ (c .if1 .left))
 

@@ -1,25 +1,17 @@
-use mathlib.Core.Path.{refl, sym, ap, _∙_}
 use borrow.Author.Tests.{eq-eqb, ne-eqb, le-leb, lt-leb}
 use borrow.Author.Needs.{needs}
 use Rattle.lines.proofs.board.is_hex.Statement.{statement}
 use Rattle.lines.proofs.board.is_hex.Tie as tie
-use Rattle.lines.proofs.board.is_hex.Reads as reads
-use Rattle.lines.proofs.board.is_hex.Lts as lts
-use Rattle.words.proofs.number.are_digits.Reads as are-digits-reads
 
--- src/board.rt:108:9
 returns : tie.Need-returns
 returns c = rw (lt-leb _ _ (c .if1 .taken))
 
--- src/board.rt:111:9
 returns-2 : tie.Need-returns-2
 returns-2 c = rw (le-leb _ _ (c .before .if1 .left), ne-eqb _ _ (c .if2 .taken))
 
--- src/board.rt:113:5
 are-digits-requires : tie.Need-are-digits-requires
 are-digits-requires c κs = search needs
 
--- src/board.rt:104:1
 returns-3 : tie.Need-returns-3
 returns-3 c = rw (le-leb _ _ (c .before .before .if1 .left), eq-eqb _ _ (c .before .if2 .left), ← c .are-digits .ensures)
 

@@ -1,72 +1,50 @@
-use mathlib.Core.Path.{_≡_, refl, sym, ap, _∙_}
 use native.Mathlib.Omega.{arith}
-use Rattle.words.specs.WordLaws.{word-from, word-end-bound, after-word, after-out}
+use Rattle.words.specs.WordLaws.{word-from, word-end-bound}
 use Rattle.lines.specs.Board.{boardWords}
 use borrow.Author.Needs.{needs}
 use Rattle.lines.proofs.board.read_words.Statement.{statement}
 use Rattle.lines.proofs.board.read_words.Tie as tie
-use Rattle.lines.proofs.board.read_words.Reads as reads
-use Rattle.lines.proofs.board.read_words.Lts as lts
-use Rattle.lines.proofs.board.bytes_line.Reads as bytes-line-reads
-use Rattle.lines.proofs.board.read_form.Reads as read-form-reads
-use Rattle.words.proofs.is_same.Reads as is-same-reads
-use Rattle.words.proofs.number.read_numbers.Reads as read-numbers-reads
-use Rattle.words.proofs.word_end.Reads as word-end-reads
 
--- src/board.rt:158:9
 word-end-requires : tie.Need-word-end-requires
 word-end-requires c κs = search needs
 
--- src/board.rt:159:23
 sub-is-same : tie.Need-sub-is-same
 sub-is-same c = search needs
 
--- src/board.rt:159:23
 part-is-same-start : tie.Need-part-is-same-start
 part-is-same-start c = search needs
 
--- src/board.rt:159:23
 part-is-same-end : tie.Need-part-is-same-end
 part-is-same-end c = word-end-bound (c .before .before .args .line .now) 0 (c .word-end .result) (omega arith) (c .word-end .ensures)
 
--- src/board.rt:159:39
 slice-aggregate-is-same : tie.Need-slice-aggregate-is-same
 slice-aggregate-is-same c = search needs
 
--- src/board.rt:159:8
 is-same-requires : tie.Need-is-same-requires
 is-same-requires c κs = search needs
 
--- src/board.rt:160:9
 bytes-line-requires : tie.Need-bytes-line-requires
 bytes-line-requires c κs = search needs
 
--- src/board.rt:160:9
 returns : tie.Need-returns
 unfolding boardWords
 returns c = let line = c .before .before .before .before .before .before .before .args .line .now in let stop = c .before .before .before .before .before .word-end .result in let cut = word-from line 0 stop (omega arith) (c .before .before .before .before .before .word-end .ensures) in rw (cut, ← c .before .before .is-same .ensures, c .before .if1 .taken, ← c .bytes-line .ensures)
 
--- src/board.rt:162:9
 read-numbers-requires : tie.Need-read-numbers-requires
 read-numbers-requires c κs = search needs
 
--- src/board.rt:163:15
 sub-read-form : tie.Need-sub-read-form
 sub-read-form c = search needs
 
--- src/board.rt:163:15
 part-read-form-start : tie.Need-part-read-form-start
 part-read-form-start c = search needs
 
--- src/board.rt:163:15
 part-read-form-end : tie.Need-part-read-form-end
 part-read-form-end c = word-end-bound (c .before .before .before .before .before .before .before .args .line .now) 0 (c .before .before .before .before .before .word-end .result) (omega arith) (c .before .before .before .before .before .word-end .ensures)
 
--- src/board.rt:163:5
 read-form-requires : tie.Need-read-form-requires
 read-form-requires c κs = search needs
 
--- src/board.rt:155:1
 returns-2 : tie.Need-returns-2
 unfolding boardWords
 returns-2 c = let line = c .before .before .before .before .before .before .before .before .before .args .line .now in let stop = c .before .before .before .before .before .before .before .word-end .result in let cut = word-from line 0 stop (omega arith) (c .before .before .before .before .before .before .before .word-end .ensures) in rw (cut, ← c .before .before .before .before .is-same .ensures, c .before .before .before .if1 .left, ← c .before .before .read-numbers .ensures, ← c .read-form .ensures)

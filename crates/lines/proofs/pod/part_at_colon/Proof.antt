@@ -1,7 +1,7 @@
-use mathlib.Core.Path.{_≡_, refl, sym, ap, _∙_}
+use mathlib.Core.Path.{_≡_, refl, sym, _∙_}
 use native.Mathlib.Omega.{arith}
 use borrow.Author.Needs.{needs}
-use Rattle.words.specs.WordLaws.{word-from, word-end-bound, after-word, after-out}
+use Rattle.words.specs.WordLaws.{word-end-bound, after-word, after-out}
 use Prim.Native.Nat.{_+_, _-_}
 use lib.ListN.{length, take, drop}
 use Rattle.words.specs.Words.{wordsAfter}
@@ -10,12 +10,6 @@ use Rattle.words.specs.NumberLaws.{gather-goes-on}
 use Rattle.lines.specs.Pod.{beforeColon, afterColon}
 use Rattle.lines.proofs.pod.part_at_colon.Statement.{statement}
 use Rattle.lines.proofs.pod.part_at_colon.Tie as tie
-use Rattle.lines.proofs.pod.part_at_colon.Reads as reads
-use Rattle.lines.proofs.pod.part_at_colon.Lts as lts
-use Rattle.words.proofs.is_same.Reads as is-same-reads
-use Rattle.words.proofs.number.add_number.Reads as add-number-reads
-use Rattle.words.proofs.number.read_number.Reads as read-number-reads
-use Rattle.words.proofs.word_end.Reads as word-end-reads
 
 abbrev Inv-loop : tie.InvT-loop
 Inv-loop line end before₀ at₀ t7 before at =
@@ -25,71 +19,54 @@ Inv-loop line end before₀ at₀ t7 before at =
 abbrev μ-loop : tie.MeasureT-loop
 μ-loop line end before₀ at₀ t7 before at = length line - at
 
--- src/pod.rt:26:5
 loop-holds : tie.Need-loop-holds Inv-loop μ-loop
 loop-holds c = (refl, refl)
 
--- src/pod.rt:27:21
 add-start : tie.Need-add-start Inv-loop μ-loop
 add-start c = search needs
 
--- src/pod.rt:28:13
 word-end-requires : tie.Need-word-end-requires Inv-loop μ-loop
 word-end-requires c κs = search needs
 
--- src/pod.rt:29:27
 sub-is-same : tie.Need-sub-is-same Inv-loop μ-loop
 sub-is-same c = search needs
 
--- src/pod.rt:29:27
 part-is-same-start : tie.Need-part-is-same-start Inv-loop μ-loop
 part-is-same-start c = search needs
 
--- src/pod.rt:29:27
 part-is-same-end : tie.Need-part-is-same-end Inv-loop μ-loop
 part-is-same-end c = word-end-bound (c .before .before .before .before .args .line .now) (c .before .before .loop .at + 1) (c .word-end .result) (omega arith) (c .word-end .ensures)
 
--- src/pod.rt:29:47
 slice-aggregate-is-same : tie.Need-slice-aggregate-is-same Inv-loop μ-loop
 slice-aggregate-is-same c = search needs
 
--- src/pod.rt:29:12
 is-same-requires : tie.Need-is-same-requires Inv-loop μ-loop
 is-same-requires c κs = search needs
 
--- src/pod.rt:30:13
 returns : tie.Need-returns Inv-loop μ-loop
 returns c = let line = c .before .before .before .before .before .before .before .before .args .line .now in let at = c .before .before .before .before .before .before .loop .at in let stop = c .before .before .before .before .word-end .result in let cut = after-word line at stop (c .before .before .before .before .before .loop-test .taken) (c .before .before .before .before .word-end .ensures) in (sym (c .before .before .before .before .before .before .loop .inv .0 ∙ rw (cut, ← c .before .is-same .ensures, c .if1 .taken)), sym (c .before .before .before .before .before .before .loop .inv .1 ∙ rw (cut, ← c .before .is-same .ensures, c .if1 .taken)))
 
--- src/pod.rt:35:79
 sub-read-number : tie.Need-sub-read-number Inv-loop μ-loop
 sub-read-number c = search needs
 
--- src/pod.rt:35:79
 part-read-number-start : tie.Need-part-read-number-start Inv-loop μ-loop
 part-read-number-start c = search needs
 
--- src/pod.rt:35:79
 part-read-number-end : tie.Need-part-read-number-end Inv-loop μ-loop
 part-read-number-end c = word-end-bound (c .before .before .before .before .before .before .before .before .args .line .now) (c .before .before .before .before .before .before .loop .at + 1) (c .before .before .before .before .word-end .result) (omega arith) (c .before .before .before .before .word-end .ensures)
 
--- src/pod.rt:35:52
 read-number-requires : tie.Need-read-number-requires Inv-loop μ-loop
 read-number-requires c κs = search needs
 
--- src/pod.rt:35:9
 add-number-requires : tie.Need-add-number-requires Inv-loop μ-loop
 add-number-requires c κs = search needs
 
--- src/pod.rt:26:5
 loop-less : tie.Need-loop-less Inv-loop μ-loop
 loop-less c = omega (arith, c .before .before .before .before .before .before .before .word-end .ensures)
 
--- src/pod.rt:26:5
 loop-again : tie.Need-loop-again Inv-loop μ-loop
 loop-again c = let line = c .before .before .before .before .before .before .before .before .before .before .before .args .line .now in let at = c .before .before .before .before .before .before .before .before .before .loop .at in let stop = c .before .before .before .before .before .before .before .word-end .result in let cut = after-word line at stop (c .before .before .before .before .before .before .before .before .loop-test .taken) (c .before .before .before .before .before .before .before .word-end .ensures) in (c .before .before .before .before .before .before .before .before .before .loop .inv .0 ∙ rw (cut, ← c .before .before .before .before .is-same .ensures, c .before .before .before .if1 .left) (gather-goes-on (c .before .before .before .before .before .before .before .before .before .loop .before) (c .add-number .result) (c .before .read-number .result) (take (stop - (at + 1)) (drop (at + 1) line)) (beforeColon (wordsAfter line stop)) (c .before .read-number .ensures) (c .add-number .ensures)), c .before .before .before .before .before .before .before .before .before .loop .inv .1 ∙ rw (cut, ← c .before .before .before .before .is-same .ensures, c .before .before .before .if1 .left))
 
--- src/pod.rt:21:1
 returns-2 : tie.Need-returns-2 Inv-loop μ-loop
 returns-2 c = let out = after-out (c .before .before .before .args .line .now) (c .before .loop .at) (c .loop-test .left) in (sym (c .before .loop .inv .0 ∙ rw out), sym (c .before .loop .inv .1 ∙ rw out))
 

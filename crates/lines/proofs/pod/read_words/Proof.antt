@@ -1,98 +1,71 @@
-use mathlib.Core.Path.{_≡_, refl, sym, ap, _∙_}
 use native.Mathlib.Omega.{arith}
-use Rattle.words.specs.WordLaws.{word-from, word-end-bound, after-word, after-out}
-use Rattle.lines.specs.PodLaws.{as-meant, says-nothing, says-unclear, says-build, says-read}
+use Rattle.words.specs.WordLaws.{word-from, word-end-bound}
+use Rattle.lines.specs.PodLaws.{as-meant, says-unclear, says-build}
 use Rattle.lines.specs.Pod.{podWords}
 use borrow.Author.Needs.{needs}
 use Rattle.lines.proofs.pod.read_words.Statement.{statement}
 use Rattle.lines.proofs.pod.read_words.Tie as tie
-use Rattle.lines.proofs.pod.read_words.Reads as reads
-use Rattle.lines.proofs.pod.read_words.Lts as lts
-use Rattle.lines.proofs.pod.read_read.Reads as read-read-reads
-use Rattle.lines.proofs.request.read_request.Reads as read-request-reads
-use Rattle.words.proofs.is_same.Reads as is-same-reads
-use Rattle.words.proofs.word_end.Reads as word-end-reads
 
--- src/pod.rt:87:9
 word-end-requires : tie.Need-word-end-requires
 word-end-requires c κs = search needs
 
--- src/pod.rt:88:23
 sub-is-same : tie.Need-sub-is-same
 sub-is-same c = search needs
 
--- src/pod.rt:88:23
 part-is-same-start : tie.Need-part-is-same-start
 part-is-same-start c = search needs
 
--- src/pod.rt:88:23
 part-is-same-end : tie.Need-part-is-same-end
 part-is-same-end c = word-end-bound (c .before .before .before .args .line .now) 0 (c .word-end .result) (omega arith) (c .word-end .ensures)
 
--- src/pod.rt:88:39
 slice-aggregate-is-same : tie.Need-slice-aggregate-is-same
 slice-aggregate-is-same c = search needs
 
--- src/pod.rt:88:8
 is-same-requires : tie.Need-is-same-requires
 is-same-requires c κs = search needs
 
--- src/pod.rt:89:15
 read-request-requires : tie.Need-read-request-requires
 read-request-requires c κs = search needs
 
--- src/pod.rt:90:24
 enum-known-request : tie.Need-enum-known-request
 enum-known-request c = search needs
 
--- src/pod.rt:90:36
 returns : tie.Need-returns
 unfolding podWords
 returns c = let line = c .before .before .before .before .before .before .before .before .before .before .before .args .line .now in let stop = c .before .before .before .before .before .before .before .before .word-end .result in let cut = word-from line 0 stop (omega arith) (c .before .before .before .before .before .before .before .before .word-end .ensures) in as-meant (rw (cut, ← c .before .before .before .before .before .is-same .ensures, c .before .before .before .before .if1 .taken, ← c .before .before .before .read-request .ensures, c .before .request .given .1)) (says-build _ _)
 
--- src/pod.rt:91:33
 enum-told : tie.Need-enum-told
 enum-told c = search needs
 
--- src/pod.rt:91:33
 returns-2 : tie.Need-returns-2
 unfolding podWords
 returns-2 c = let line = c .before .before .before .before .before .before .before .before .before .before .args .line .now in let stop = c .before .before .before .before .before .before .before .word-end .result in let cut = word-from line 0 stop (omega arith) (c .before .before .before .before .before .before .before .word-end .ensures) in as-meant (rw (cut, ← c .before .before .before .before .is-same .ensures, c .before .before .before .if1 .taken, ← c .before .before .read-request .ensures, c .enum-told .given .1)) (says-unclear _)
 
--- src/pod.rt:94:23
 sub-is-same-2 : tie.Need-sub-is-same-2
 sub-is-same-2 c = search needs
 
--- src/pod.rt:94:23
 part-is-same-start-2 : tie.Need-part-is-same-start-2
 part-is-same-start-2 c = search needs
 
--- src/pod.rt:94:23
 part-is-same-end-2 : tie.Need-part-is-same-end-2
 part-is-same-end-2 c = word-end-bound (c .before .before .before .before .before .before .before .args .line .now) 0 (c .before .before .before .before .word-end .result) (omega arith) (c .before .before .before .before .word-end .ensures)
 
--- src/pod.rt:94:39
 slice-aggregate-is-same-2 : tie.Need-slice-aggregate-is-same-2
 slice-aggregate-is-same-2 c = search needs
 
--- src/pod.rt:94:8
 is-same-requires-2 : tie.Need-is-same-requires-2
 is-same-requires-2 c κs = search needs
 
--- src/pod.rt:95:9
 read-read-requires : tie.Need-read-read-requires
 read-read-requires c κs = search needs
 
--- src/pod.rt:95:9
 same-length : tie.Need-same-length
 same-length c = search needs
 
--- src/pod.rt:95:9
 returns-3 : tie.Need-returns-3
 unfolding podWords
 returns-3 c = let line = c .before .before .before .before .before .before .before .before .before .before .before .before .before .before .before .args .line .now in let stop = c .before .before .before .before .before .before .before .before .before .before .before .before .word-end .result in let cut = word-from line 0 stop (omega arith) (c .before .before .before .before .before .before .before .before .before .before .before .before .word-end .ensures) in as-meant (rw (cut, ← c .before .before .before .before .before .before .before .before .before .is-same .ensures, c .before .before .before .before .before .before .before .before .if1 .left, ← c .before .before .before .before .before .is-same2 .ensures, c .before .before .before .before .if2 .taken)) (c .before .before .read-read .ensures)
 
--- src/pod.rt:84:1
 returns-4 : tie.Need-returns-4
 unfolding podWords
 returns-4 c = let line = c .before .before .before .before .before .before .before .before .before .before .before .args .line .now in let stop = c .before .before .before .before .before .before .before .before .word-end .result in let cut = word-from line 0 stop (omega arith) (c .before .before .before .before .before .before .before .before .word-end .ensures) in as-meant (rw (cut, ← c .before .before .before .before .before .is-same .ensures, c .before .before .before .before .if1 .left, ← c .before .is-same2 .ensures, c .if2 .left)) (says-unclear _)

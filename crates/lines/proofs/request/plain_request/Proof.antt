@@ -1,91 +1,68 @@
-use mathlib.Core.Path.{refl, sym, ap, _∙_}
 use Rattle.lines.specs.Requests.{plainRequest}
 use borrow.Author.Needs.{needs}
 use Rattle.lines.proofs.request.plain_request.Statement.{statement}
 use Rattle.lines.proofs.request.plain_request.Tie as tie
-use Rattle.lines.proofs.request.plain_request.Reads as reads
-use Rattle.lines.proofs.request.plain_request.Lts as lts
-use Rattle.words.proofs.is_same.Reads as is-same-reads
 
--- src/request.rt:13:29
 slice-aggregate-is-same : tie.Need-slice-aggregate-is-same
 slice-aggregate-is-same c = search needs
 
--- src/request.rt:13:8
 is-same-requires : tie.Need-is-same-requires
 is-same-requires c κs = search needs
 
--- src/request.rt:14:9
 returns : tie.Need-returns
 unfolding plainRequest
 returns c = rw (← c .before .is-same .ensures, c .if1 .taken)
 
--- src/request.rt:16:29
 slice-aggregate-is-same-2 : tie.Need-slice-aggregate-is-same-2
 slice-aggregate-is-same-2 c = search needs
 
--- src/request.rt:16:8
 is-same-requires-2 : tie.Need-is-same-requires-2
 is-same-requires-2 c κs = search needs
 
--- src/request.rt:17:9
 returns-2 : tie.Need-returns-2
 unfolding plainRequest
 returns-2 c = rw (← c .before .before .before .before .is-same .ensures, c .before .before .before .if1 .left, ← c .before .is-same2 .ensures, c .if2 .taken)
 
--- src/request.rt:19:29
 slice-aggregate-is-same-3 : tie.Need-slice-aggregate-is-same-3
 slice-aggregate-is-same-3 c = search needs
 
--- src/request.rt:19:8
 is-same-requires-3 : tie.Need-is-same-requires-3
 is-same-requires-3 c κs = search needs
 
--- src/request.rt:20:9
 returns-3 : tie.Need-returns-3
 unfolding plainRequest
 returns-3 c = rw (← c .before .before .before .before .before .before .before .is-same .ensures, c .before .before .before .before .before .before .if1 .left, ← c .before .before .before .before .is-same2 .ensures, c .before .before .before .if2 .left, ← c .before .is-same3 .ensures, c .if3 .taken)
 
--- src/request.rt:22:29
 slice-aggregate-is-same-4 : tie.Need-slice-aggregate-is-same-4
 slice-aggregate-is-same-4 c = search needs
 
--- src/request.rt:22:8
 is-same-requires-4 : tie.Need-is-same-requires-4
 is-same-requires-4 c κs = search needs
 
--- src/request.rt:23:9
 returns-4 : tie.Need-returns-4
 unfolding plainRequest
 returns-4 c = rw (← c .before .before .before .before .before .before .before .before .before .before .is-same .ensures, c .before .before .before .before .before .before .before .before .before .if1 .left, ← c .before .before .before .before .before .before .before .is-same2 .ensures, c .before .before .before .before .before .before .if2 .left, ← c .before .before .before .before .is-same3 .ensures, c .before .before .before .if3 .left, ← c .before .is-same4 .ensures, c .if4 .taken)
 
--- src/request.rt:25:29
 slice-aggregate-is-same-5 : tie.Need-slice-aggregate-is-same-5
 slice-aggregate-is-same-5 c = search needs
 
--- src/request.rt:25:8
 is-same-requires-5 : tie.Need-is-same-requires-5
 is-same-requires-5 c κs = search needs
 
--- src/request.rt:26:9
 returns-5 : tie.Need-returns-5
 unfolding plainRequest
 returns-5 c = rw (← c .before .before .before .before .before .before .before .before .before .before .before .before .before .is-same .ensures, c .before .before .before .before .before .before .before .before .before .before .before .before .if1 .left, ← c .before .before .before .before .before .before .before .before .before .before .is-same2 .ensures, c .before .before .before .before .before .before .before .before .before .if2 .left, ← c .before .before .before .before .before .before .before .is-same3 .ensures, c .before .before .before .before .before .before .if3 .left, ← c .before .before .before .before .is-same4 .ensures, c .before .before .before .if4 .left, ← c .before .is-same5 .ensures, c .if5 .taken)
 
--- src/request.rt:28:29
 slice-aggregate-is-same-6 : tie.Need-slice-aggregate-is-same-6
 slice-aggregate-is-same-6 c = search needs
 
--- src/request.rt:28:8
 is-same-requires-6 : tie.Need-is-same-requires-6
 is-same-requires-6 c κs = search needs
 
--- src/request.rt:29:9
 returns-6 : tie.Need-returns-6
 unfolding plainRequest
 returns-6 c = rw (← c .before .before .before .before .before .before .before .before .before .before .before .before .before .before .before .before .is-same .ensures, c .before .before .before .before .before .before .before .before .before .before .before .before .before .before .before .if1 .left, ← c .before .before .before .before .before .before .before .before .before .before .before .before .before .is-same2 .ensures, c .before .before .before .before .before .before .before .before .before .before .before .before .if2 .left, ← c .before .before .before .before .before .before .before .before .before .before .is-same3 .ensures, c .before .before .before .before .before .before .before .before .before .if3 .left, ← c .before .before .before .before .before .before .before .is-same4 .ensures, c .before .before .before .before .before .before .if4 .left, ← c .before .before .before .before .is-same5 .ensures, c .before .before .before .if5 .left, ← c .before .is-same6 .ensures, c .if6 .taken)
 
--- src/request.rt:10:1
 returns-7 : tie.Need-returns-7
 unfolding plainRequest
 returns-7 c = rw (← c .before .before .before .before .before .before .before .before .before .before .before .before .before .before .before .before .is-same .ensures, c .before .before .before .before .before .before .before .before .before .before .before .before .before .before .before .if1 .left, ← c .before .before .before .before .before .before .before .before .before .before .before .before .before .is-same2 .ensures, c .before .before .before .before .before .before .before .before .before .before .before .before .if2 .left, ← c .before .before .before .before .before .before .before .before .before .before .is-same3 .ensures, c .before .before .before .before .before .before .before .before .before .if3 .left, ← c .before .before .before .before .before .before .before .is-same4 .ensures, c .before .before .before .before .before .before .if4 .left, ← c .before .before .before .before .is-same5 .ensures, c .before .before .before .if5 .left, ← c .before .is-same6 .ensures, c .if6 .left)
