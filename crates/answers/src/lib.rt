@@ -13,7 +13,6 @@ use trigger::Access;
 use trigger::Bus;
 use trigger::Event;
 ghost use Prim.Native.Nat.{_≤_};
-ghost use lib.ListN.{length};
 
 mod state;
 
@@ -70,12 +69,16 @@ fn make(w: u32, bench: Bench, text: &mut [u8]) -> Answered {
     }
 }
 
+fn clear_at(memory: &mut [u8], i: usize) {
+    if i < memory.len() {
+        memory[i] = 0;
+    }
+}
+
 fn clear(memory: &mut [u8], count: usize) {
     let mut i: usize = 0;
     while i < count {
-        if i < memory.len() {
-            memory[i] = 0;
-        }
+        clear_at(memory, i);
         i += 1;
     }
 }
@@ -105,10 +108,10 @@ fn copy_bytes(line: &[u8], start: usize, count: usize, memory: &mut [u8], to: us
     }
 }
 
-// The byte of the digits at a place, kept within the line and the memory.
+// The byte of the digits at a place of a line, which has 4,096 bytes at most.
 fn put_one(line: &[u8], start: usize, memory: &mut [u8], to: usize, i: usize) {
-    if i <= line.len() {
-        if start <= line.len() {
+    if i <= 4096 {
+        if start <= 4096 {
             let byte = words::number::byte_at(line, start + 2 * i);
             if to <= memory.len() {
                 if i < memory.len() - to {
@@ -165,9 +168,13 @@ fn show_bytes(address: u32, count: u32, bench: Bench, memory: &[u8], text: &mut 
     }
 }
 
-fn byte_of(memory: &[u8], at: usize) -> u32 {
-    if at < memory.len() {
-        return wide(memory[at]);
+// The byte so many places after another one, and 0 beyond the end.
+fn byte_of(memory: &[u8], from: usize, i: usize) -> u32 {
+    if from <= memory.len() {
+        if i < memory.len() - from {
+            return wide(memory[from + i]);
+        }
+        return 0;
     }
     0
 }
@@ -181,22 +188,20 @@ fn put_memory(memory: &[u8], from: usize, count: u32, text: &mut [u8], at: usize
     let mut i: usize = 0;
     let most = count as usize;
     while i < most {
-        if from <= memory.len() {
-            to = console::put_hex(text, to, byte_of(memory, from + i), 2);
-        }
+        to = console::put_hex(text, to, byte_of(memory, from, i), 2);
         i += 1;
     }
     to
 }
 
 // The bytes lent, of those that there are.
-fn lent_of(memory: &mut [u8], lent: usize) -> usize
-    ensures { λ r. ⌜ r ≤ length (now (memory .entry)) ⌝ }
+fn lent_of(lent: usize, most: usize) -> usize
+    ensures { λ r. ⌜ r ≤ most ⌝ }
 {
-    if lent <= memory.len() {
+    if lent <= most {
         return lent;
     }
-    memory.len()
+    most
 }
 
 fn take_word(word: u32, bench: Bench, memory: &mut [u8], text: &mut [u8]) -> Answered {
@@ -326,7 +331,7 @@ fn carrying(pc: u32, address: u32, attribute: u32, lanes: u32) -> Event {
 }
 
 fn packet_line(word: u32, bench: Bench, memory: &mut [u8], text: &mut [u8]) -> Answered {
-    let n = lent_of(memory, bench.lent);
+    let n = lent_of(bench.lent, memory.len());
     take_word(word, bench, &mut memory[..n], text)
 }
 

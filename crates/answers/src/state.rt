@@ -55,18 +55,41 @@ fn put_value(text: &mut [u8], at: usize, field: usize, value: u32) -> usize {
     console::put_byte(text, at, b' ')
 }
 
+// Where the text goes on, and the next field.
+pub struct Put {
+    pub at: usize,
+    pub field: usize,
+}
+
+// A byte of a name, or at the space that ends it the field's value.
+fn put_mark(text: &mut [u8], at: usize, mark: u8, field: usize, values: &[u32]) -> Put {
+    if mark != b' ' {
+        return Put {
+            at: console::put_byte(text, at, mark),
+            field: field,
+        };
+    }
+    if field < values.len() {
+        return Put {
+            at: put_value(text, at, field, values[field]),
+            field: field + 1,
+        };
+    }
+    Put {
+        at: at,
+        field: field,
+    }
+}
+
 // Each name, which ends at a space, with its value.
 fn put_fields(text: &mut [u8], at: usize, names: &[u8], values: &[u32]) -> usize {
     let mut to = at;
     let mut field: usize = 0;
     let mut i: usize = 0;
     while i < names.len() {
-        if names[i] != b' ' {
-            to = console::put_byte(text, to, names[i]);
-        } else if field < values.len() {
-            to = put_value(text, to, field, values[field]);
-            field += 1;
-        }
+        let put = put_mark(text, to, names[i], field, values);
+        to = put.at;
+        field = put.field;
         i += 1;
     }
     to
