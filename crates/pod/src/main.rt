@@ -74,27 +74,33 @@ fn serve(line: &[u8], replies: &mut [u32], text: &mut [u8]) {
     }
 }
 
+// The line at the front of the buffer.
+fn serve_front(line: &[u8], length: usize, replies: &mut [u32], text: &mut [u8]) {
+    if length <= line.len() {
+        serve(&line[..length], replies, text);
+    }
+}
+
+// Line after line, to the end of the input. The budget of lines is never used up.
+fn run(source: &mut [u8], line: &mut [u8], text: &mut [u8], replies: &mut [u32]) {
+    let mut feed = Feed { at: 0, end: 0 };
+    let mut budget: u64 = 0xFFFFFFFFFFFFFFFF;
+    while 0 < budget {
+        budget -= 1;
+        let fed = console::next_line(source, feed, line);
+        feed = fed.feed;
+        let got = fed.got;
+        let Got::Line(length) = got else {
+            return;
+        };
+        serve_front(line, length, replies, text);
+    }
+}
+
 fn main() {
     let mut source = [0u8; 65536];
     let mut line = [0u8; 4097];
     let mut text = [0u8; 4096];
     let mut replies = [0u32; 4096];
-    let mut feed = Feed { at: 0, end: 0 };
-    let mut budget: u64 = 0xFFFFFFFFFFFFFFFF;
-    while 0 < budget {
-        budget -= 1;
-        let fed = console::next_line(&mut source, feed, &mut line);
-        feed = fed.feed;
-        let got = fed.got;
-        match got {
-            Got::End => {
-                return;
-            }
-            Got::Line(length) => {
-                if length <= 4097 {
-                    serve(&line[..length], &mut replies, &mut text);
-                }
-            }
-        }
-    }
+    run(&mut source, &mut line, &mut text, &mut replies);
 }
