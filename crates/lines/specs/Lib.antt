@@ -6,3 +6,4 @@ pub mod Talk
 pub mod Pod
 pub mod PodLaws
 pub mod Examples
+pub mod LineLaws
