@@ -7,3 +7,4 @@ pub mod Pod
 pub mod PodLaws
 pub mod Examples
 pub mod LineLaws
+pub mod RoomLaws
