@@ -1,5 +1,5 @@
 -- Laws of a request's words: how many they are, and that C is clear.
-use Prim.Native.Nat.{ℕ, _+_, _/_, _%_, _≤_}
+use Prim.Native.Nat.{ℕ, _+_, _≤_}
 use native.Mathlib.Omega.{arith}
 use mathlib.Core.Path.{_≡_, refl}
 use mathlib.Core.Bool.{Bool, true, false, _&&_}
@@ -75,9 +75,6 @@ data-clear Byte value h = (omega (arith, leb-true value 0xFF h), tt)
 data-clear Word value h = (leb-true value 0xFFFF h, tt)
 data-clear Long value h = halves-clear value h
 
-rc-clear : (rc : ℕ) → rc ≤ 0xFFF → Clear (halves rc)
-rc-clear rc h = (omega arith, (omega arith, tt))
-
 pub operands-clear : (request : Request) → inRange request ≡ true → Clear (operands request)
 operands-clear (Rdreg register) h = tt
 operands-clear (Wdreg register value) h = halves-clear value (and-left (dataInRange Long value) _ h)
@@ -89,9 +86,10 @@ operands-clear (Fill size value) h = data-clear size value h
 operands-clear Go h = tt
 operands-clear Nop h = tt
 operands-clear SyncPc h = tt
-operands-clear (Rcreg rc) h = rc-clear rc (leb-true rc 0xFFF h)
+operands-clear (Rcreg rc) h = let small = leb-true rc 0xFFF h in (omega arith, (omega arith, tt))
 operands-clear (Wcreg rc value) h =
-    clear-append (halves rc) (halves value) (rc-clear rc (leb-true rc 0xFFF (and-right (dataInRange Long value) _ h))) (halves-clear value (and-left (dataInRange Long value) _ h))
+    let small = leb-true rc 0xFFF (and-right (dataInRange Long value) _ h) in
+    clear-append (halves rc) (halves value) (omega arith, (omega arith, tt)) (halves-clear value (and-left (dataInRange Long value) _ h))
 operands-clear (Rdmreg n) h = tt
 operands-clear (Wdmreg n value) h = halves-clear value (and-left (dataInRange Long value) _ h)
 

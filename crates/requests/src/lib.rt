@@ -4,8 +4,12 @@ ghost use Rattle.requests.specs.Request.{dataInRange, inRange, kindOf};
 use grounds::Ground;
 use memory::Size;
 
-pub mod words;
+mod replies;
+mod words;
 
+pub use replies::feed;
+pub use replies::is_done;
+pub use replies::read;
 pub use words::build;
 
 // A command of the table with its fields: a register, Rc or n first, or the size and the address, and then the data.

@@ -1,31 +1,22 @@
-use mathlib.Core.Path.{refl, sym, ap, _∙_}
 use borrow.Author.Needs.{needs}
 use Rattle.requests.proofs.is_data.Statement.{statement}
 use Rattle.requests.proofs.is_data.Tie as tie
-use Rattle.requests.proofs.is_data.Reads as reads
-use Rattle.requests.proofs.is_data.Lts as lts
 
--- src/lib.rt:67:23
 enum-told : tie.Need-enum-told
 enum-told c = search needs
 
--- src/lib.rt:68:23
 enum-told-2 : tie.Need-enum-told-2
 enum-told-2 c = search needs
 
--- src/lib.rt:69:23
 enum-told-3 : tie.Need-enum-told-3
 enum-told-3 c = search needs
 
--- src/lib.rt:63:1
 returns : tie.Need-returns
 returns c = rw (c .enum-told .given .1)
 
--- src/lib.rt:63:1
 returns-2 : tie.Need-returns-2
 returns-2 c = rw (c .enum-told2 .given .1)
 
--- src/lib.rt:63:1
 returns-3 : tie.Need-returns-3
 returns-3 c = rw (c .enum-told3 .given .1)
 

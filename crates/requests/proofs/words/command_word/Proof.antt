@@ -1,162 +1,120 @@
 use native.Mathlib.Omega.{arith}
 use Rattle.requests.specs.WordLaws.{command-word-clear}
-use mathlib.Core.Path.{refl, sym, ap, _∙_}
 use borrow.Author.Needs.{needs}
 use Rattle.requests.proofs.words.command_word.Statement.{statement}
 use Rattle.requests.proofs.words.command_word.Tie as tie
-use Rattle.requests.proofs.words.command_word.Reads as reads
-use Rattle.requests.proofs.words.command_word.Lts as lts
-use Rattle.requests.proofs.words.size_code.Reads as size-code-reads
 
--- src/words.rt:31:24
 enum-known-request : tie.Need-enum-known-request
 enum-known-request c = search needs
 
--- src/words.rt:31:37
 add-result : tie.Need-add-result
 add-result c = omega (arith, rw (c .before .request .given .1) at (command-word-clear (c .before .before .before .args .request) (c .before .before .before .pre)))
 
--- src/words.rt:32:24
 enum-known-request-2 : tie.Need-enum-known-request-2
 enum-known-request-2 c = search needs
 
--- src/words.rt:32:40
 add-result-2 : tie.Need-add-result-2
 add-result-2 c = omega (arith, rw (c .before .request2 .given .1) at (command-word-clear (c .before .before .before .args .request) (c .before .before .before .pre)))
 
--- src/words.rt:33:23
 enum-known-request-3 : tie.Need-enum-known-request-3
 enum-known-request-3 c = search needs
 
--- src/words.rt:33:44
 size-code-requires : tie.Need-size-code-requires
 size-code-requires c κs = search needs
 
--- src/words.rt:33:35
 add-result-3 : tie.Need-add-result-3
 add-result-3 c = omega (arith, rw (c .before .before .request3 .given .1) at (command-word-clear (c .before .before .before .before .args .request) (c .before .before .before .before .pre)))
 
--- src/words.rt:34:24
 enum-known-request-4 : tie.Need-enum-known-request-4
 enum-known-request-4 c = search needs
 
--- src/words.rt:34:48
 size-code-requires-2 : tie.Need-size-code-requires-2
 size-code-requires-2 c κs = search needs
 
--- src/words.rt:34:39
 add-result-4 : tie.Need-add-result-4
 add-result-4 c = omega (arith, rw (c .before .before .request4 .given .1) at (command-word-clear (c .before .before .before .before .args .request) (c .before .before .before .before .pre)))
 
--- src/words.rt:35:23
 enum-known-request-5 : tie.Need-enum-known-request-5
 enum-known-request-5 c = search needs
 
--- src/words.rt:35:41
 size-code-requires-3 : tie.Need-size-code-requires-3
 size-code-requires-3 c κs = search needs
 
--- src/words.rt:35:32
 add-result-5 : tie.Need-add-result-5
 add-result-5 c = omega (arith, rw (c .before .before .request5 .given .1) at (command-word-clear (c .before .before .before .before .args .request) (c .before .before .before .before .pre)))
 
--- src/words.rt:36:23
 enum-known-request-6 : tie.Need-enum-known-request-6
 enum-known-request-6 c = search needs
 
--- src/words.rt:36:44
 size-code-requires-4 : tie.Need-size-code-requires-4
 size-code-requires-4 c κs = search needs
 
--- src/words.rt:36:35
 add-result-6 : tie.Need-add-result-6
 add-result-6 c = omega (arith, rw (c .before .before .request6 .given .1) at (command-word-clear (c .before .before .before .before .args .request) (c .before .before .before .before .pre)))
 
--- src/words.rt:37:24
 enum-told : tie.Need-enum-told
 enum-told c = search needs
 
--- src/words.rt:38:25
 enum-told-2 : tie.Need-enum-told-2
 enum-told-2 c = search needs
 
--- src/words.rt:39:28
 enum-told-3 : tie.Need-enum-told-3
 enum-told-3 c = search needs
 
--- src/words.rt:40:30
 enum-told-4 : tie.Need-enum-told-4
 enum-told-4 c = search needs
 
--- src/words.rt:41:33
 enum-told-5 : tie.Need-enum-told-5
 enum-told-5 c = search needs
 
--- src/words.rt:42:25
 enum-known-request-7 : tie.Need-enum-known-request-7
 enum-known-request-7 c = search needs
 
--- src/words.rt:42:31
 add-result-7 : tie.Need-add-result-7
 add-result-7 c = omega (arith, rw (c .before .request7 .given .1) at (command-word-clear (c .before .before .before .args .request) (c .before .before .before .pre)))
 
--- src/words.rt:43:25
 enum-known-request-8 : tie.Need-enum-known-request-8
 enum-known-request-8 c = search needs
 
--- src/words.rt:43:34
 add-result-8 : tie.Need-add-result-8
 add-result-8 c = omega (arith, rw (c .before .request8 .given .1) at (command-word-clear (c .before .before .before .args .request) (c .before .before .before .pre)))
 
--- src/words.rt:26:1
 returns : tie.Need-returns
 returns c = rw (c .before .request .given .1)
 
--- src/words.rt:26:1
 returns-2 : tie.Need-returns-2
 returns-2 c = rw (c .before .request2 .given .1)
 
--- src/words.rt:26:1
 returns-3 : tie.Need-returns-3
 returns-3 c = rw (c .before .before .request3 .given .1, ← c .size-code .ensures)
 
--- src/words.rt:26:1
 returns-4 : tie.Need-returns-4
 returns-4 c = rw (c .before .before .request4 .given .1, ← c .size-code2 .ensures)
 
--- src/words.rt:26:1
 returns-5 : tie.Need-returns-5
 returns-5 c = rw (c .before .before .request5 .given .1, ← c .size-code3 .ensures)
 
--- src/words.rt:26:1
 returns-6 : tie.Need-returns-6
 returns-6 c = rw (c .before .before .request6 .given .1, ← c .size-code4 .ensures)
 
--- src/words.rt:26:1
 returns-7 : tie.Need-returns-7
 returns-7 c = search needs
 
--- src/words.rt:26:1
 returns-8 : tie.Need-returns-8
 returns-8 c = search needs
 
--- src/words.rt:26:1
 returns-9 : tie.Need-returns-9
 returns-9 c = search needs
 
--- src/words.rt:26:1
 returns-10 : tie.Need-returns-10
 returns-10 c = search needs
 
--- src/words.rt:26:1
 returns-11 : tie.Need-returns-11
 returns-11 c = search needs
 
--- src/words.rt:26:1
 returns-12 : tie.Need-returns-12
 returns-12 c = rw (c .before .request7 .given .1)
 
--- src/words.rt:26:1
 returns-13 : tie.Need-returns-13
 returns-13 c = rw (c .before .request8 .given .1)
 

@@ -1,65 +1,47 @@
 use native.Mathlib.Omega.{arith}
-use mathlib.Core.Path.{refl, sym, ap, _∙_}
 use borrow.Author.Needs.{needs}
 use Rattle.requests.proofs.words.put_data.Statement.{statement}
 use Rattle.requests.proofs.words.put_data.Tie as tie
-use Rattle.requests.proofs.words.put_data.Reads as reads
-use Rattle.requests.proofs.words.put_data.Lts as lts
-use Rattle.requests.proofs.words.put_halves.Reads as put-halves-reads
 
--- src/words.rt:91:13
 enum-told : tie.Need-enum-told
 enum-told c = search needs
 
--- src/words.rt:91:13
 mul-words : tie.Need-mul-words
 mul-words c = search needs
 
--- src/words.rt:91:13
 slice-write-words : tie.Need-slice-write-words
 slice-write-words c = omega (arith, rw (c .enum-told .given .1) at (c .before .before .before .pre))
 
--- src/words.rt:94:13
 enum-told-2 : tie.Need-enum-told-2
 enum-told-2 c = search needs
 
--- src/words.rt:94:13
 mul-words-2 : tie.Need-mul-words-2
 mul-words-2 c = search needs
 
--- src/words.rt:94:13
 slice-write-words-2 : tie.Need-slice-write-words-2
 slice-write-words-2 c = omega (arith, rw (c .enum-told2 .given .1) at (c .before .before .before .pre))
 
--- src/words.rt:97:24
 enum-told-3 : tie.Need-enum-told-3
 enum-told-3 c = search needs
 
--- src/words.rt:97:13
 put-halves-requires : tie.Need-put-halves-requires
 put-halves-requires c κs = rw (c .before .enum-told3 .given .1) at (c .before .before .before .before .pre)
 
--- src/words.rt:85:1
 same-length : tie.Need-same-length
 same-length c = search needs
 
--- src/words.rt:85:1
 returns : tie.Need-returns
 returns c = rw (c .enum-told .given .1)
 
--- src/words.rt:85:1
 same-length-2 : tie.Need-same-length-2
 same-length-2 c = search needs
 
--- src/words.rt:85:1
 returns-2 : tie.Need-returns-2
 returns-2 c = rw (c .enum-told2 .given .1)
 
--- src/words.rt:85:1
 same-length-3 : tie.Need-same-length-3
 same-length-3 c = search needs
 
--- src/words.rt:85:1
 returns-3 : tie.Need-returns-3
 returns-3 c = rw (c .before .before .before .before .enum-told3 .given .1) (c .before .before .put-halves .ensures)
 

@@ -1,38 +1,28 @@
 use native.Mathlib.Omega.{arith}
 use lib.ListN.{length-set}
 use native.Mathlib.Numerals.{add-one}
-use mathlib.Core.Path.{refl, sym, ap, _∙_}
 use borrow.Author.Needs.{needs}
 use Rattle.requests.proofs.words.put_halves.Statement.{statement}
 use Rattle.requests.proofs.words.put_halves.Tie as tie
-use Rattle.requests.proofs.words.put_halves.Reads as reads
-use Rattle.requests.proofs.words.put_halves.Lts as lts
 
--- src/words.rt:81:5
 mul-words : tie.Need-mul-words
 mul-words c = search needs
 
--- src/words.rt:81:5
 slice-write-words : tie.Need-slice-write-words
 slice-write-words c = search needs
 
--- src/words.rt:82:11
 add-words : tie.Need-add-words
 add-words c = search needs
 
--- src/words.rt:82:5
 mul-words-2 : tie.Need-mul-words-2
 mul-words-2 c = search needs
 
--- src/words.rt:82:5
 slice-write-words-2 : tie.Need-slice-write-words-2
 slice-write-words-2 c = simp length-set (omega arith)
 
--- src/words.rt:77:1
 same-length : tie.Need-same-length
 same-length c = search needs
 
--- src/words.rt:77:1
 returns : tie.Need-returns
 returns c = rw add-one
 

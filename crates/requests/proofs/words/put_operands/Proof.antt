@@ -1,55 +1,47 @@
 use native.Mathlib.Omega.{arith}
 use Rattle.requests.specs.WordLaws.{data-length}
-use mathlib.Core.Path.{refl, sym, ap, _∙_}
 use borrow.Author.Needs.{needs}
 use Rattle.requests.proofs.words.put_operands.Statement.{statement}
 use Rattle.requests.proofs.words.put_operands.Tie as tie
-use Rattle.requests.proofs.words.put_operands.Reads as reads
-use Rattle.requests.proofs.words.put_operands.Lts as lts
-use Rattle.requests.proofs.words.put_data.Reads as put-data-reads
-use Rattle.requests.proofs.words.put_halves.Reads as put-halves-reads
 
 enum-told : tie.Need-enum-told
 enum-told c = search needs
 
--- src/words.rt:108:27
 enum-known-request : tie.Need-enum-known-request
 enum-known-request c = search needs
 
--- src/words.rt:109:13
 put-halves-requires : tie.Need-put-halves-requires
 put-halves-requires c κs = rw (c .before .before .request .given .1) at (c .before .before .before .before .before .pre)
 
--- src/words.rt:111:26
 enum-known-request-2 : tie.Need-enum-known-request-2
 enum-known-request-2 c = search needs
 
--- src/words.rt:112:13
 put-halves-requires-2 : tie.Need-put-halves-requires-2
 put-halves-requires-2 c κs = rw (c .before .before .request2 .given .1) at (c .before .before .before .before .before .pre)
 
--- src/words.rt:114:24
 enum-known-request-3 : tie.Need-enum-known-request-3
 enum-known-request-3 c = search needs
 
--- src/words.rt:115:13
 put-halves-requires-3 : tie.Need-put-halves-requires-3
 put-halves-requires-3 c κs = omega (arith, rw (c .before .before .request3 .given .1) at (c .before .before .before .before .before .pre))
 
--- src/words.rt:116:13
 put-data-requires : tie.Need-put-data-requires
-put-data-requires c κs = omega (arith, data-length (c .before .before .before .before .before .before .request3 .given .0 .0) (c .before .before .before .before .before .before .request3 .given .0 .1 .1 .0), c .before .before .before .put-halves3 .kept .0, rw (c .before .before .before .before .before .before .request3 .given .1) at (c .before .before .before .before .before .before .before .before .before .pre))
+put-data-requires c κs =
+    let fields = c .before .before .before .before .before .before .request3 .given in
+    let room = rw (fields .1) at (c .before .before .before .before .before .before .before .before .before .pre) in
+    omega (arith, data-length (fields .0 .0) (fields .0 .1 .1 .0), c .before .before .before .put-halves3 .kept .0)
 
 enum-told-2 : tie.Need-enum-told-2
 enum-told-2 c = search needs
 
--- src/words.rt:119:23
 enum-known-request-4 : tie.Need-enum-known-request-4
 enum-known-request-4 c = search needs
 
--- src/words.rt:120:13
 put-data-requires-2 : tie.Need-put-data-requires-2
-put-data-requires-2 c κs = omega (arith, data-length (c .before .before .request4 .given .0 .0) (c .before .before .request4 .given .0 .1 .0), rw (c .before .before .request4 .given .1) at (c .before .before .before .before .before .pre))
+put-data-requires-2 c κs =
+    let fields = c .before .before .request4 .given in
+    let room = rw (fields .1) at (c .before .before .before .before .before .pre) in
+    omega (arith, data-length (fields .0 .0) (fields .0 .1 .0))
 
 enum-told-3 : tie.Need-enum-told-3
 enum-told-3 c = search needs
@@ -60,114 +52,90 @@ enum-told-4 c = search needs
 enum-told-5 : tie.Need-enum-told-5
 enum-told-5 c = search needs
 
--- src/words.rt:125:24
 enum-known-request-5 : tie.Need-enum-known-request-5
 enum-known-request-5 c = search needs
 
--- src/words.rt:126:13
 put-halves-requires-4 : tie.Need-put-halves-requires-4
 put-halves-requires-4 c κs = rw (c .before .before .request5 .given .1) at (c .before .before .before .before .before .pre)
 
--- src/words.rt:128:24
 enum-known-request-6 : tie.Need-enum-known-request-6
 enum-known-request-6 c = search needs
 
--- src/words.rt:129:13
 put-halves-requires-5 : tie.Need-put-halves-requires-5
 put-halves-requires-5 c κs = omega (arith, rw (c .before .before .request6 .given .1) at (c .before .before .before .before .before .pre))
 
--- src/words.rt:130:13
 put-halves-requires-6 : tie.Need-put-halves-requires-6
-put-halves-requires-6 c κs = omega (arith, c .before .before .before .put-halves5 .kept .0, rw (c .before .before .before .before .before .before .request6 .given .1) at (c .before .before .before .before .before .before .before .before .before .pre))
+put-halves-requires-6 c κs =
+    let fields = c .before .before .before .before .before .before .request6 .given in
+    let room = rw (fields .1) at (c .before .before .before .before .before .before .before .before .before .pre) in
+    omega (arith, c .before .before .before .put-halves5 .kept .0)
 
 enum-told-6 : tie.Need-enum-told-6
 enum-told-6 c = search needs
 
--- src/words.rt:133:28
 enum-known-request-7 : tie.Need-enum-known-request-7
 enum-known-request-7 c = search needs
 
--- src/words.rt:134:13
 put-halves-requires-7 : tie.Need-put-halves-requires-7
 put-halves-requires-7 c κs = rw (c .before .before .request7 .given .1) at (c .before .before .before .before .before .pre)
 
--- src/words.rt:102:1
 returns : tie.Need-returns
 returns c = search needs
 
--- src/words.rt:102:1
 same-length : tie.Need-same-length
 same-length c = search needs
 
--- src/words.rt:102:1
 returns-2 : tie.Need-returns-2
 returns-2 c = rw (c .before .before .before .before .before .request .given .1) (c .before .before .put-halves .ensures)
 
--- src/words.rt:102:1
 same-length-2 : tie.Need-same-length-2
 same-length-2 c = search needs
 
--- src/words.rt:102:1
 returns-3 : tie.Need-returns-3
 returns-3 c = rw (c .before .before .before .before .before .request2 .given .1) (c .before .before .put-halves2 .ensures)
 
--- src/words.rt:102:1
 same-length-3 : tie.Need-same-length-3
 same-length-3 c = search needs
 
--- src/words.rt:102:1
 returns-4 : tie.Need-returns-4
 returns-4 c = rw (c .before .before .before .before .before .before .before .before .before .request3 .given .1, c .before .before .put-data .ensures, c .before .before .before .before .before .before .put-halves3 .ensures)
 
--- src/words.rt:102:1
 returns-5 : tie.Need-returns-5
 returns-5 c = search needs
 
--- src/words.rt:102:1
 same-length-4 : tie.Need-same-length-4
 same-length-4 c = search needs
 
--- src/words.rt:102:1
 returns-6 : tie.Need-returns-6
 returns-6 c = rw (c .before .before .before .before .before .request4 .given .1) (c .before .before .put-data2 .ensures)
 
--- src/words.rt:102:1
 returns-7 : tie.Need-returns-7
 returns-7 c = search needs
 
--- src/words.rt:102:1
 returns-8 : tie.Need-returns-8
 returns-8 c = search needs
 
--- src/words.rt:102:1
 returns-9 : tie.Need-returns-9
 returns-9 c = search needs
 
--- src/words.rt:102:1
 same-length-5 : tie.Need-same-length-5
 same-length-5 c = search needs
 
--- src/words.rt:102:1
 returns-10 : tie.Need-returns-10
 returns-10 c = rw (c .before .before .before .before .before .request5 .given .1) (c .before .before .put-halves4 .ensures)
 
--- src/words.rt:102:1
 same-length-6 : tie.Need-same-length-6
 same-length-6 c = search needs
 
--- src/words.rt:102:1
 returns-11 : tie.Need-returns-11
 returns-11 c = rw (c .before .before .before .before .before .before .before .before .before .request6 .given .1, c .before .before .put-halves6 .ensures, c .before .before .before .before .before .before .put-halves5 .ensures)
 
--- src/words.rt:102:1
 returns-12 : tie.Need-returns-12
 returns-12 c = search needs
 
--- src/words.rt:102:1
 same-length-7 : tie.Need-same-length-7
 same-length-7 c = search needs
 
--- src/words.rt:102:1
 returns-13 : tie.Need-returns-13
 returns-13 c = rw (c .before .before .before .before .before .request7 .given .1) (c .before .before .put-halves7 .ensures)
 

@@ -1,0 +1,4 @@
+pub mod Walk
+pub mod StepLaws
+pub mod RestLaws
+pub mod WalkLaws
