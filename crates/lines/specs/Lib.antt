@@ -6,3 +6,5 @@ pub mod Talk
 pub mod Pod
 pub mod PodLaws
 pub mod Examples
+pub mod LineLaws
+pub mod RoomLaws
