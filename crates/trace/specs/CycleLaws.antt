@@ -1,0 +1,36 @@
+-- Laws of one cycle: what it finds under way goes on, a value grows by a nibble at its low end, and fits the nibbles it has.
+use mathlib.Core.Path.{_≡_, ap}
+use Prim.Native.Nat.{ℕ, zero, suc, _+_, _-_, _*_, _^_, _≤_, _<_}
+use mathlib.Core.List.{List}
+use native.Mathlib.Numerals.{add-one}
+use native.Mathlib.Nat.{pow-succ', pow-le-pow-right}
+use native.Mathlib.Omega.{arith}
+use Rattle.trace.specs.declared.cycle.Carried.{Carried}
+use Rattle.trace.specs.Cycle.{pst, ddata, value, after, carriedInto}
+
+-- the cycle after cycle i finds what cycle i leaves
+pub carried-next : (trace : List ℕ) (i : ℕ) (c : Carried) → c ≡ carriedInto trace i → after c (pst trace i) ≡ carriedInto trace (i + 1)
+unfolding carriedInto
+carried-next trace i c e = rw (add-one i) (ap (λ (d : Carried). after d (pst trace i)) e)
+
+pub value-where : (trace : List ℕ) {a b n m : ℕ} → a ≡ b → n ≡ m → value trace a n ≡ value trace b m
+value-where trace e f = rw (e, f)
+
+pub value-of-none : (trace : List ℕ) (from n : ℕ) → n ≡ 0 → value trace from n ≡ 0
+unfolding value
+value-of-none trace from n e = rw e
+
+-- the nibble of the cycle before stands below those that follow it
+pub value-before : (trace : List ℕ) (at next rest more : ℕ) → at + 1 ≡ next → rest + 1 ≡ more
+    → value trace at more ≡ value trace next rest * 16 + ddata trace at
+unfolding value
+value-before trace at next rest more e f = rw (← f, ← e, add-one rest) (omega arith)
+
+pub value-below : (trace : List ℕ) (n from : ℕ) → value trace from n < 16 ^ n
+unfolding value
+value-below trace zero from = omega arith
+value-below trace (suc n) from = omega (arith, value-below trace n (from + 1), pow-succ' 16 n)
+
+-- with a nibble to come, a value leaves room for it in 32 bits
+pub value-leaves-room : (trace : List ℕ) (n from : ℕ) → n ≤ 7 → value trace from n < 268435456
+value-leaves-room trace n from h = omega (arith, value-below trace n from, pow-le-pow-right {n = 16} (omega arith) {i = n} {j = 7} h)

@@ -1,0 +1,92 @@
+-- Laws of the items: how many there are, and how their words follow each other.
+use mathlib.Core.Path.{_≡_, refl, ap, sym, _∙_}
+use Prim.Native.Nat.{ℕ, zero, suc, _+_, _-_, _*_, _≤_}
+use mathlib.Core.Bool.{Bool, true, false, cond}
+use mathlib.Core.List.{List, [], _∷_, _++_}
+use native.Mathlib.Numerals.{add-one}
+use native.Mathlib.Nat.{add-zero, add-suc}
+use native.Mathlib.Omega.{arith}
+use lib.Dec.{eqb}
+use lib.ListN.{length, length-append}
+use Rattle.trace.specs.declared.cycle.Carried.{Carried}
+use Rattle.trace.specs.declared.cycle.Item.{Item}
+use Rattle.trace.specs.Cycle.{pst, givesOwn, carriedInto}
+use Rattle.trace.specs.Items.{valueItem, ownItem, itemsAt, itemsBefore, items, words}
+
+-- one where the test holds
+abbrev pub one : Bool → ℕ
+one b = cond b 1 0
+
+-- how many items a cycle gives: a value's, and its own
+unfoldable pub countAt : Carried → ℕ → ℕ
+countAt c p = one (eqb (c .due) 1) + one (givesOwn (c .run) p)
+
+one-length : (b : Bool) (x : Item) → length (cond b (x ∷ []) []) ≡ one b
+one-length true x = refl
+one-length false x = refl
+
+pub items-counted : (trace : List ℕ) (i : ℕ) (c : Carried) (p : ℕ) → length (itemsAt trace i c p) ≡ countAt c p
+unfolding itemsAt countAt
+items-counted trace i c p = simp (length-append, one-length) (omega arith)
+
+one-le : (b : Bool) → one b ≤ 1
+one-le true = omega arith
+one-le false = omega arith
+
+-- a cycle gives two items at most
+pub count-le : (c : Carried) (p : ℕ) → countAt c p ≤ 2
+unfolding countAt
+count-le c p = omega (arith, one-le (eqb (c .due) 1), one-le (givesOwn (c .run) p))
+
+-- one cycle more
+pub items-next : (trace : List ℕ) (i : ℕ) → length (itemsBefore trace (suc i)) ≡ length (itemsBefore trace i) + countAt (carriedInto trace i) (pst trace i)
+unfolding itemsBefore
+items-next trace i =
+    length-append (itemsBefore trace i) (itemsAt trace i (carriedInto trace i) (pst trace i))
+    ∙ ap (λ (n : ℕ). length (itemsBefore trace i) + n) (items-counted trace i (carriedInto trace i) (pst trace i))
+
+pub count-next : (trace : List ℕ) (i n : ℕ) (c : Carried) → n ≡ length (itemsBefore trace i) → c ≡ carriedInto trace i
+    → n + countAt c (pst trace i) ≡ length (itemsBefore trace (i + 1))
+count-next trace i n c e f = rw (add-one i) (rw (e, f) (sym (items-next trace i)))
+
+pub items-before-le : (trace : List ℕ) (i : ℕ) → length (itemsBefore trace i) ≤ 2 * i
+unfolding itemsBefore
+items-before-le trace zero = omega arith
+items-before-le trace (suc i) = omega (arith, items-next trace i, items-before-le trace i, count-le (carriedInto trace i) (pst trace i))
+
+-- later cycles take no item away
+pub items-grow : (trace : List ℕ) (i d : ℕ) → length (itemsBefore trace i) ≤ length (itemsBefore trace (i + d))
+items-grow trace i zero = rw (add-zero i) (omega arith)
+items-grow trace i (suc d) = rw (add-suc i d) (omega (arith, items-next trace (i + d), items-grow trace i d))
+
+pub words-append : (xs ys : List Item) → words (xs ++ ys) ≡ words xs ++ words ys
+words-append [] ys = refl
+words-append (x ∷ xs) ys = rw (words-append xs ys)
+
+-- two words an item
+pub length-words : (xs : List Item) → length (words xs) ≡ 2 * length xs
+length-words [] = refl
+length-words (x ∷ xs) = omega (arith, length-words xs)
+
+-- the words of a cycle: those of a value's item, then those of its own
+pub words-at : (trace : List ℕ) (i : ℕ) (c : Carried) (p : ℕ) → words (itemsAt trace i c p) ≡ words (valueItem trace i c) ++ words (ownItem i (c .run) p)
+unfolding itemsAt
+words-at trace i c p = words-append (valueItem trace i c) (ownItem i (c .run) p)
+
+-- the items of the cycles before cycle i, and those of cycle i
+pub items-more : (trace : List ℕ) (i : ℕ) (c : Carried) → c ≡ carriedInto trace i → itemsBefore trace (i + 1) ≡ itemsBefore trace i ++ itemsAt trace i c (pst trace i)
+unfolding itemsBefore
+items-more trace i c e = rw (add-one i, e)
+
+pub words-next : (trace : List ℕ) (i : ℕ) (c : Carried) → c ≡ carriedInto trace i
+    → words (itemsBefore trace (i + 1)) ≡ words (itemsBefore trace i) ++ words (itemsAt trace i c (pst trace i))
+words-next trace i c e = ap words (items-more trace i c e) ∙ words-append (itemsBefore trace i) (itemsAt trace i c (pst trace i))
+
+-- the words of some cycles fit where those of all do
+pub words-fit : (trace : List ℕ) (i room : ℕ) → i ≤ length trace → length (words (items trace)) ≤ room → length (words (itemsBefore trace i)) ≤ room
+unfolding items
+words-fit trace i room h f =
+    omega (arith, length-words (itemsBefore trace i), length-words (itemsBefore trace (length trace)), rw e at (items-grow trace i (length trace - i)))
+  where
+    e : i + (length trace - i) ≡ length trace
+    e = omega arith

@@ -1,0 +1,182 @@
+// The listing of a trace into a lent buffer, and the judgement of a trace that precedes it.
+use crate::cycle;
+use crate::cycle::Carried;
+ghost use mathlib.Core.Path.{_≡_};
+ghost use Prim.Native.Nat.{_+_, _*_, _≤_, _<_};
+ghost use mathlib.Core.List.{[], _∷_};
+ghost use lib.ListN.{length};
+ghost use lib.Seq.{sets};
+ghost use Rattle.trace.specs.Cycle.{pst};
+ghost use Rattle.trace.specs.Items.{valueItem, ownItem, itemsAt, items, words};
+ghost use Rattle.trace.specs.ItemLaws.{countAt};
+ghost use Rattle.trace.specs.Listing.{number, told, reading, ListingMeets};
+
+// Why a trace, or a buffer for its items, is refused.
+pub enum Ground {
+    TraceTooLong,
+    ReservedPst,
+    MarkerTooSoon,
+    EndsInTransfer,
+    BufferTooShort,
+}
+
+// How many items a trace has, or why it is refused and at which cycle (0 where the ground has none).
+pub enum Listing {
+    Items(usize),
+    Refused { ground: Ground, cycle: usize },
+}
+
+pub fn ground_number(ground: Ground) -> u32
+    ensures { λ r. ⌜ r ≡ number ground ⌝ }
+{
+    match ground {
+        Ground::TraceTooLong => 7,
+        Ground::ReservedPst => 8,
+        Ground::MarkerTooSoon => 9,
+        Ground::EndsInTransfer => 10,
+        Ground::BufferTooShort => 11,
+    }
+}
+
+// How many items a cycle gives.
+fn count_items(carried: Carried, pst: u8) -> usize
+    ensures { λ r. ⌜ r ≡ countAt carried pst ⌝ }
+{
+    let own = cycle::gives_own(carried.run, pst);
+    if carried.due == 1 {
+        if own {
+            return 2;
+        }
+        return 1;
+    }
+    if own { 1 } else { 0 }
+}
+
+// Whether a trace can be read: the number of its items, or the refusal, a buffer aside.
+pub fn judge_trace(trace: &[u8]) -> Listing
+    ensures { λ r. ⌜ told r ≡ reading (now (trace .entry)) ⌝ }
+{
+    if 65536 < trace.len() {
+        return Listing::Refused {
+            ground: Ground::TraceTooLong,
+            cycle: 0,
+        };
+    }
+    let mut carried = cycle::nothing_carried();
+    let mut items = 0usize;
+    let mut i = 0usize;
+    while i < trace.len() {
+        let pst = trace[i] / 16;
+        if cycle::is_reserved(pst) {
+            return Listing::Refused {
+                ground: Ground::ReservedPst,
+                cycle: i,
+            };
+        }
+        if cycle::comes_too_soon(carried.due, pst) {
+            return Listing::Refused {
+                ground: Ground::MarkerTooSoon,
+                cycle: i,
+            };
+        }
+        items += count_items(carried, pst);
+        carried = cycle::after_cycle(carried, pst);
+        i += 1;
+    }
+    if carried.due == 0 {
+        return Listing::Items(items);
+    }
+    Listing::Refused {
+        ground: Ground::EndsInTransfer,
+        cycle: 0,
+    }
+}
+
+// An item's two words at a place of the buffer; the place after them.
+fn put_item(out: &mut [u32], at: usize, item: cycle::Item) -> usize
+    requires { ⌜ (item .cycle < 65536) × (at + 2 ≤ length (now out)) ⌝ }
+    ensures { λ r. ⌜ (r ≡ at + 2) × (now (out .exit) ≡ sets (now (out .entry)) at (words (item ∷ []))) ⌝ }
+{
+    out[at] = (item.cycle * 16 + item.code as usize) as u32;
+    out[at + 1] = item.value;
+    at + 2
+}
+
+fn put_value(trace: &[u8], out: &mut [u32], at: usize, i: usize, carried: Carried) -> usize
+    requires { ⌜ (i < 65536) × (at + length (words (valueItem (now trace) i carried)) ≤ length (now out)) ⌝ }
+    ensures { λ r. ⌜ (r ≡ at + length (words (valueItem (now (trace .entry)) i carried)))
+        × (now (out .exit) ≡ sets (now (out .entry)) at (words (valueItem (now (trace .entry)) i carried))) ⌝ }
+{
+    if carried.due == 1 {
+        let value = cycle::read_value(trace, i, carried.marker);
+        let item = cycle::Item {
+            cycle: i,
+            code: carried.marker,
+            value,
+        };
+        return put_item(out, at, item);
+    }
+    at
+}
+
+fn put_own(out: &mut [u32], at: usize, i: usize, run: u8, pst: u8) -> usize
+    requires { ⌜ (i < 65536) × (at + length (words (ownItem i run pst)) ≤ length (now out)) ⌝ }
+    ensures { λ r. ⌜ (r ≡ at + length (words (ownItem i run pst)))
+        × (now (out .exit) ≡ sets (now (out .entry)) at (words (ownItem i run pst))) ⌝ }
+{
+    if cycle::gives_own(run, pst) {
+        let item = cycle::Item {
+            cycle: i,
+            code: pst,
+            value: 0,
+        };
+        return put_item(out, at, item);
+    }
+    at
+}
+
+// The items of one cycle.
+fn put_cycle(trace: &[u8], out: &mut [u32], at: usize, i: usize, carried: Carried, pst: u8) -> usize
+    requires { ⌜ (i < 65536) × (at + length (words (itemsAt (now trace) i carried pst)) ≤ length (now out)) ⌝ }
+    ensures { λ r. ⌜ (r ≡ at + length (words (itemsAt (now (trace .entry)) i carried pst)))
+        × (now (out .exit) ≡ sets (now (out .entry)) at (words (itemsAt (now (trace .entry)) i carried pst))) ⌝ }
+{
+    let next = put_value(trace, out, at, i, carried);
+    put_own(out, next, i, carried.run, pst)
+}
+
+// The words of all items of a trace, from the front of the buffer on.
+fn put_items(trace: &[u8], out: &mut [u32])
+    requires { ⌜ (length (now trace) ≤ 65536) × (length (words (items (now trace))) ≤ length (now out)) ⌝ }
+    ensures { λ _. ⌜ now (out .exit) ≡ sets (now (out .entry)) 0 (words (items (now (trace .entry)))) ⌝ }
+{
+    let mut carried = cycle::nothing_carried();
+    let mut at = 0usize;
+    let mut i = 0usize;
+    while i < trace.len() {
+        let pst = trace[i] / 16;
+        at = put_cycle(trace, out, at, i, carried, pst);
+        carried = cycle::after_cycle(carried, pst);
+        i += 1;
+    }
+}
+
+// The listing: the number of items, whose words then stand at the front of the buffer, or a refusal.
+pub fn list_trace(trace: &[u8], out: &mut [u32]) -> Listing
+    ensures { λ r. ⌜ ListingMeets (now (trace .entry)) (now (out .entry)) r (now (out .exit)) ⌝ }
+{
+    let judged = judge_trace(trace);
+    match judged {
+        Listing::Refused { ground, cycle } => Listing::Refused { ground, cycle },
+        Listing::Items(count) => {
+            if out.len() / 2 < count {
+                return Listing::Refused {
+                    ground: Ground::BufferTooShort,
+                    cycle: 0,
+                };
+            }
+            put_items(trace, out);
+            Listing::Items(count)
+        }
+    }
+}
