@@ -1,0 +1,83 @@
+-- Demand 3, "no history strands the port": its promises, one record each, of any machine.
+use Prim.Native.Nat.{ℕ, _+_, _≤_}
+use mathlib.Core.Path.{_≡_}
+use mathlib.Core.Bool.{Bool, true, false}
+use mathlib.Core.List.{List, [], _∷_, map}
+use lib.ListN.{length}
+use Rattle.grounds.specs.declared.Verdict.the-variants.{Accepted}
+use Rattle.board.specs.declared.Board.{Board}
+use Rattle.board.specs.Ranges.{inRange}
+use Rattle.promises.specs.Machine.{State, Machine}
+use Rattle.promises.specs.Words.{Word, stage, Closing, closing, replyAt, isClosed}
+use Rattle.promises.specs.Words.Closing.{reply}
+use Rattle.promises.specs.Environment.{Found, isRest, Trail, trail, begun, handed, underWay}
+use Rattle.promises.specs.History.{Lent, Call, after, finds, made, Idle, nops}
+
+-- the reply that the rules give next: for the last word, or on a fresh board "next reply 0x0FFFF"
+abbrev pub nextReply : List Word → ℕ
+nextReply [] = 0x0FFFF
+nextReply (o ∷ os) = replyAt (stage o)
+
+abbrev pub lastClosed : List Word → Bool
+lastClosed [] = true
+lastClosed (o ∷ os) = isClosed (stage o)
+
+-- the words before the last
+abbrev pub earlier : List Word → List Word
+earlier [] = []
+earlier (o ∷ os) = os
+
+-- Each command word gets one closing reply, in the order sent.
+pub record ClosingReplies (k : Machine) (t : Trail) : Type 0 where
+  -- At rest, the next packet carries out the closing reply of the last command word taken.
+  pub last : (o : Word) (os : List Word) → t .words ≡ o ∷ os → isRest (t .place .phase) ≡ true → closing o ≡ reply (k .reply (t .place))
+  -- The port is at rest exactly where that reply is the next one, so that the packet which carries it out is the next command word.
+  pub rests : isRest (t .place .phase) ≡ lastClosed (t .words)
+  -- At rest or not, the next packet carries out what the rules give next for the last word: not ready, its upper result word, or its closing reply.
+  pub next : k .reply (t .place) ≡ nextReply (t .words)
+  -- Every word before the last has had its closing reply, one each, in the order sent.
+  pub inOrder : map closing (earlier (t .words)) ≡ map reply (t .given)
+
+-- Packets that are all NOPs bring a place to rest, whatever board and memory each of them finds.
+pub record BroughtToRest (k : Machine) (w : ℕ) (t : Trail) (fs : List Found) : Type 0 where
+  -- With 4 + W of them or more the port is at rest.
+  pub enough : 4 + w ≤ length fs → isRest (trail k t fs .place .phase) ≡ true
+  -- At most 4 + W of them find it not at rest.
+  pub atMost : underWay k (t .place) fs ≤ 4 + w
+  -- Those are not taken as command words; each of the others is one.
+  pub noneTaken : length (trail k t fs .words) + underWay k (t .place) fs ≡ length (t .words) + length fs
+
+-- two boards that agree in all but halted, the flags, BSTAT and a pending SYNC_PC
+pub record SameButStatus (a b : Board) : Type 0 where
+  pub setting : a .w ≡ b .w
+  pub registers : a .registers ≡ b .registers
+  pub debug : a .debug ≡ b .debug
+
+-- NOPs with events and breakpoint inputs between them, against the same NOPs in a row.
+pub record Unmoved (k : Machine) (s : State) (ms : List Lent) (idle : List Call) : Type 0 where
+  -- It takes as many NOPs to rest.
+  pub number : underWay k (s .place) (finds k s idle) ≡ underWay k (s .place) (finds k s (nops ms))
+  -- The port then holds the same phase, chain, pointer and next reply.
+  pub place : after k s idle .place ≡ after k s (nops ms) .place
+  -- W and all registers are the same; halted, the flags, BSTAT and a pending SYNC_PC are what the events make of them.
+  pub board : SameButStatus (after k s idle .board) (after k s (nops ms) .board)
+  -- Each NOP has carried out the same reply and left the same memory.
+  pub handed : handed k (s .place) (finds k s idle) ≡ handed k (s .place) (finds k s (nops ms))
+
+-- What follows holds of a state and the trail of the history that led to it.
+pub record NopsBring (k : Machine) (w : ℕ) (s : State) (t : Trail) (ms : List Lent) (idle : List Call) : Type 0 where
+  -- Every one of the NOPs is accepted.
+  pub accepted : length (finds k s idle) ≡ length ms
+  -- With 4 + W NOPs or more the port is at rest, whatever comes between them.
+  pub enough : 4 + w ≤ length ms → isRest (after k s idle .place .phase) ≡ true
+  -- It takes at most 4 + W of them, none of which is taken as a command word.
+  pub brought : BroughtToRest k w t (finds k s idle)
+  -- What comes between makes no difference to how many it takes or what the port then holds.
+  pub unmoved : Unmoved k s ms idle
+
+-- No history strands the port.
+pub record NeverStranded (k : Machine) (w : ℕ) (history : List Call) : Type 0 where
+  -- The state it leads to is within the ranges of ground 12.
+  pub ranged : inRange (after k (made w) history .board) (after k (made w) history .place) ≡ true
+  -- NOPs, each lent whatever memory within the limit, with whatever events and breakpoint inputs between, bring it to rest.
+  pub nops : (ms : List Lent) (idle : List Call) → Idle ms idle → NopsBring k w (after k (made w) history) (trail k begun (finds k (made w) history)) ms idle
