@@ -51,8 +51,8 @@ made w = state (freshBoard w) freshPlace
 pub data Idle : List Lent → List Call → Type 0 where
   none : Idle [] []
   nop : {ms : List Lent} {cs : List Call} (m : Lent) → length (m .bytes) ≤ 65536 → Idle ms cs → Idle (m ∷ ms) (packet m 0 ∷ cs)
-  event : {ms : List Lent} {cs : List Call} (e : Event) → Idle ms cs → Idle ms (event e ∷ cs)
-  breakpoint : {ms : List Lent} {cs : List Call} → Idle ms cs → Idle ms (breakpoint ∷ cs)
+  withEvent : {ms : List Lent} {cs : List Call} (e : Event) → Idle ms cs → Idle ms (event e ∷ cs)
+  withBreakpoint : {ms : List Lent} {cs : List Call} → Idle ms cs → Idle ms (breakpoint ∷ cs)
 
 -- the same NOPs with nothing between
 abbrev pub nops : List Lent → List Call

@@ -3,3 +3,8 @@ pub mod Words
 pub mod Environment
 pub mod History
 pub mod Promises
+pub mod Fits
+pub mod PlanFits
+pub mod WorkFits
+pub mod BoardFits
+pub mod PacketFits
