@@ -8,3 +8,8 @@ pub mod PlanFits
 pub mod WorkFits
 pub mod BoardFits
 pub mod PacketFits
+pub mod ToGo
+pub mod NopLaws
+pub mod OperandLaws
+pub mod StageLaws
+pub mod ClosingLaws
