@@ -13,3 +13,5 @@ pub mod NopLaws
 pub mod OperandLaws
 pub mod StageLaws
 pub mod ClosingLaws
+pub mod PlaceClosing
+pub mod PlaceRest
