@@ -15,3 +15,5 @@ pub mod StageLaws
 pub mod ClosingLaws
 pub mod PlaceClosing
 pub mod PlaceRest
+pub mod CalmLaws
+pub mod QuietLaws
