@@ -21,10 +21,16 @@ pub data Call : Type 0 where
   event : Event → Call
   breakpoint : Call
 
+-- an accepted packet: what it finds, and what it leaves
+abbrev pub finding : State → Lent → ℕ → Found
+finding s m word = record { board = s .board; memory = m .bytes; word = word }
+
+abbrev pub taking : Machine → State → Lent → ℕ → State
+taking k s m word = state (k .board (s .board) (s .place) word) (k .place (s .board) (s .place) (m .bytes) word)
+
 -- what a call leaves: "state, memory and result buffers stay as given" where it is refused
 abbrev pub afterCall : Machine → State → Call → State
-afterCall k s (packet m word) =
-    unless (k .verdict (s .board) (s .place) (m .bytes) word) (state (k .board (s .board) (s .place) word) (k .place (s .board) (s .place) (m .bytes) word)) s
+afterCall k s (packet m word) = unless (k .verdict (s .board) (s .place) (m .bytes) word) (taking k s m word) s
 afterCall k s (event e) = k .event (s .board) (s .place) e
 afterCall k s breakpoint = k .input (s .board) (s .place)
 
@@ -34,8 +40,7 @@ after k s (c ∷ cs) = after k (afterCall k s c) cs
 
 -- the accepted packets of a history, each with what it finds
 abbrev pub foundBy : Machine → State → Call → List Found → List Found
-foundBy k s (packet m word) fs =
-    unless (k .verdict (s .board) (s .place) (m .bytes) word) (record { board = s .board; memory = m .bytes; word = word } ∷ fs) fs
+foundBy k s (packet m word) fs = unless (k .verdict (s .board) (s .place) (m .bytes) word) (finding s m word ∷ fs) fs
 foundBy k s (event e) fs = fs
 foundBy k s breakpoint fs = fs
 

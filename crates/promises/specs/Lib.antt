@@ -17,3 +17,6 @@ pub mod PlaceClosing
 pub mod PlaceRest
 pub mod CalmLaws
 pub mod QuietLaws
+pub mod HistoryLaws
+pub mod IdleLaws
+pub mod NeverStranded

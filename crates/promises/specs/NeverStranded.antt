@@ -1,0 +1,53 @@
+-- DEMAND 3, "no history strands the port": the theorems.
+use Prim.Native.Nat.{ℕ, _+_, _≤_}
+use mathlib.Core.Path.{_≡_, refl, sym, ap, _∙_, subst}
+use mathlib.Core.Bool.{true}
+use mathlib.Core.List.{List}
+use lib.ListN.{length}
+use native.Mathlib.Omega.{arith}
+use Rattle.board.specs.declared.Place.{Place}
+use Rattle.promises.specs.Machine.{State, standIn}
+use Rattle.promises.specs.Environment.{Found, isRest, Trail, trail, begun}
+use Rattle.promises.specs.History.{Lent, Call, after, finds, made, Idle}
+use Rattle.promises.specs.Promises.{ClosingReplies, BroughtToRest, NopsBring, NeverStranded}
+use Rattle.promises.specs.Fits.{AllFit, PlaceFits}
+use Rattle.promises.specs.PacketFits.{fits-then-ranged}
+use Rattle.promises.specs.PlaceClosing.{kept-from-fresh, closing-replies-anywhere}
+use Rattle.promises.specs.PlaceRest.{AllNops, brought-to-rest}
+use Rattle.promises.specs.HistoryLaws.{Sound, fresh-sound, sound-after, finds-fit, place-of-trail}
+use Rattle.promises.specs.IdleLaws.{idle-found, idle-unmoved}
+
+module _ (w : ℕ) (small : w ≤ 15) (history : List Call) where
+  reached : Sound w (after standIn (made w) history)
+  reached = sound-after w small (made w) history (fresh-sound w)
+
+  found : AllFit w (finds standIn (made w) history)
+  found = finds-fit w small (made w) history (fresh-sound w)
+
+  here : after standIn (made w) history .place ≡ trail standIn begun (finds standIn (made w) history) .place
+  here = place-of-trail (made w) begun history refl
+
+  -- over the whole history each command word gets one closing reply, in the order sent
+  pub closing-replies : ClosingReplies standIn (trail standIn begun (finds standIn (made w) history))
+  closing-replies = closing-replies-anywhere w (finds standIn (made w) history) found
+
+  nops-bring : (ms : List Lent) (idle : List Call) → Idle ms idle → NopsBring standIn w (after standIn (made w) history) (trail standIn begun (finds standIn (made w) history)) ms idle
+  nops-bring ms idle i =
+      let s : State = after standIn (made w) history in
+      let t : Trail = trail standIn begun (finds standIn (made w) history) in
+      let nops : AllNops w (finds standIn s idle) × (length (finds standIn s idle) ≡ length ms) = idle-found w small s ms idle i reached in
+      let brought : BroughtToRest standIn w t (finds standIn s idle) =
+      brought-to-rest w t (finds standIn s idle) (nops .0) (kept-from-fresh w (finds standIn (made w) history) found) (subst (PlaceFits w) here (reached .place)) in
+      record {
+        accepted = nops .1;
+        enough = λ l. ap (λ (p : Place). isRest (p .phase)) (place-of-trail s t idle here) ∙ brought .enough (omega (arith, nops .1));
+        brought = brought;
+        unmoved = idle-unmoved w small s ms idle i reached;
+      }
+
+  -- any list of calls on a fresh board with any W from 0 to 15
+  pub never-stranded : NeverStranded standIn w history
+  never-stranded = record {
+    ranged = fits-then-ranged w (after standIn (made w) history .board) (after standIn (made w) history .place) small (reached .board) (reached .place);
+    nops = nops-bring;
+  }
