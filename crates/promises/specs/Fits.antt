@@ -64,3 +64,8 @@ pub record FoundFits (w : ℕ) (f : Found) : Type 0 where
 pub data AllFit (w : ℕ) : List Found → Type 0 where
   none : AllFit w []
   more : {f : Found} {fs : List Found} → FoundFits w f → AllFit w fs → AllFit w (f ∷ fs)
+
+-- packets that are all NOPs, with whatever each may find on a board made with W
+pub data AllNops (w : ℕ) : List Found → Type 0 where
+  done : AllNops w []
+  nop : {fs : List Found} (b : Board) (m : List ℕ) → BoardFits w b → MemoryFits m → AllNops w fs → AllNops w (record { board = b; memory = m; word = 0 } ∷ fs)

@@ -21,9 +21,9 @@ use Rattle.promises.specs.History.{Lent, Call, finding, taking, afterCal
 use Rattle.promises.specs.History.Call.{packet, event, breakpoint}
 use Rattle.promises.specs.History.Idle.{none, nop, withEvent, withBreakpoint}
 use Rattle.promises.specs.Promises.{SameButStatus, Unmoved}
-use Rattle.promises.specs.Fits.{MemoryFits}
+use Rattle.promises.specs.Fits.{MemoryFits, AllNops}
+use Rattle.promises.specs.Fits.AllNops.{done}
 use Rattle.promises.specs.PacketFits.{fits-then-accepted}
-use Rattle.promises.specs.PlaceRest as rest
 use Rattle.promises.specs.QuietLaws.{SameNop, same-nop}
 use Rattle.promises.specs.HistoryLaws.{Sound, sound-call, sound-packet}
 
@@ -57,13 +57,13 @@ module _ (w : ℕ) (small : w ≤ 15) where
     nop-after cs = rw nop-accepted
 
   -- the packets of the idle calls are NOPs, all accepted
-  pub idle-found : (s : State) (ms : List Lent) (idle : List Call) → Idle ms idle → Sound w s → rest.AllNops w (finds standIn s idle) × (length (finds standIn s idle) ≡ length ms)
+  pub idle-found : (s : State) (ms : List Lent) (idle : List Call) → Idle ms idle → Sound w s → AllNops w (finds standIn s idle) × (length (finds standIn s idle) ≡ length ms)
   unfolding finds
-  idle-found s ms idle none h = (rest.AllNops.done, refl)
+  idle-found s ms idle none h = (done, refl)
   idle-found s ms idle (nop {ms = ns} {cs = cs} m limit i) h =
-      let next : rest.AllNops w (finds standIn (taking standIn s m 0) cs) × (length (finds standIn (taking standIn s m 0) cs) ≡ length ns) =
+      let next : AllNops w (finds standIn (taking standIn s m 0) cs) × (length (finds standIn (taking standIn s m 0) cs) ≡ length ns) =
       idle-found (taking standIn s m 0) ns cs i (sound-nop s h m limit) in
-      rw (nop-accepted s h m limit) (rest.AllNops.nop (s .board) (m .bytes) (h .board) (lent-fits s h m limit) (next .0), ap suc (next .1))
+      rw (nop-accepted s h m limit) (AllNops.nop (s .board) (m .bytes) (h .board) (lent-fits s h m limit) (next .0), ap suc (next .1))
   idle-found s ms idle (withEvent {cs = cs} e i) h = idle-found (afterCall standIn s (event e)) ms cs i (sound-call w small s h (event e))
   idle-found s ms idle (withBreakpoint {cs = cs} i) h = idle-found (afterCall standIn s breakpoint) ms cs i (sound-call w small s h breakpoint)
 

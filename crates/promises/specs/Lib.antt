@@ -2,8 +2,8 @@ pub mod Machine
 pub mod Words
 pub mod Environment
 pub mod History
-pub mod Promises
 pub mod Fits
+pub mod Promises
 pub mod PlanFits
 pub mod WorkFits
 pub mod BoardFits
@@ -20,3 +20,6 @@ pub mod QuietLaws
 pub mod HistoryLaws
 pub mod IdleLaws
 pub mod NeverStranded
+pub mod Lending
+pub mod ByEye
+pub mod Tight

@@ -9,11 +9,11 @@ use Rattle.board.specs.declared.Place.{Place}
 use Rattle.promises.specs.Machine.{State, standIn}
 use Rattle.promises.specs.Environment.{Found, isRest, Trail, trail, begun}
 use Rattle.promises.specs.History.{Lent, Call, after, finds, made, Idle}
-use Rattle.promises.specs.Promises.{ClosingReplies, BroughtToRest, NopsBring, NeverStranded}
-use Rattle.promises.specs.Fits.{AllFit, PlaceFits}
+use Rattle.promises.specs.Promises.{PlaceRests, NopsBring, trailOf, NeverStranded, ClosingReplies, Demand3, PlaceDemand3}
+use Rattle.promises.specs.Fits.{AllFit, AllNops, PlaceFits}
 use Rattle.promises.specs.PacketFits.{fits-then-ranged}
-use Rattle.promises.specs.PlaceClosing.{kept-from-fresh, closing-replies-anywhere}
-use Rattle.promises.specs.PlaceRest.{AllNops, brought-to-rest}
+use Rattle.promises.specs.PlaceClosing.{kept-from-fresh, place-closes}
+use Rattle.promises.specs.PlaceRest.{place-rests-from, place-rests}
 use Rattle.promises.specs.HistoryLaws.{Sound, fresh-sound, sound-after, finds-fit, place-of-trail}
 use Rattle.promises.specs.IdleLaws.{idle-found, idle-unmoved}
 
@@ -24,20 +24,19 @@ module _ (w : ℕ) (small : w ≤ 15) (history : List Call) where
   found : AllFit w (finds standIn (made w) history)
   found = finds-fit w small (made w) history (fresh-sound w)
 
-  here : after standIn (made w) history .place ≡ trail standIn begun (finds standIn (made w) history) .place
+  here : after standIn (made w) history .place ≡ trailOf standIn w history .place
   here = place-of-trail (made w) begun history refl
 
-  -- over the whole history each command word gets one closing reply, in the order sent
-  pub closing-replies : ClosingReplies standIn (trail standIn begun (finds standIn (made w) history))
-  closing-replies = closing-replies-anywhere w (finds standIn (made w) history) found
+  pub closing-replies : ClosingReplies standIn w history
+  closing-replies = record { place = here; closes = place-closes w (finds standIn (made w) history) found }
 
-  nops-bring : (ms : List Lent) (idle : List Call) → Idle ms idle → NopsBring standIn w (after standIn (made w) history) (trail standIn begun (finds standIn (made w) history)) ms idle
+  nops-bring : (ms : List Lent) (idle : List Call) → Idle ms idle → NopsBring standIn w (after standIn (made w) history) (trailOf standIn w history) ms idle
   nops-bring ms idle i =
       let s : State = after standIn (made w) history in
-      let t : Trail = trail standIn begun (finds standIn (made w) history) in
+      let t : Trail = trailOf standIn w history in
       let nops : AllNops w (finds standIn s idle) × (length (finds standIn s idle) ≡ length ms) = idle-found w small s ms idle i reached in
-      let brought : BroughtToRest standIn w t (finds standIn s idle) =
-      brought-to-rest w t (finds standIn s idle) (nops .0) (kept-from-fresh w (finds standIn (made w) history) found) (subst (PlaceFits w) here (reached .place)) in
+      let brought : PlaceRests standIn w t (finds standIn s idle) =
+      place-rests-from w t (finds standIn s idle) (nops .0) (kept-from-fresh w (finds standIn (made w) history) found) (subst (PlaceFits w) here (reached .place)) in
       record {
         accepted = nops .1;
         enough = λ l. ap (λ (p : Place). isRest (p .phase)) (place-of-trail s t idle here) ∙ brought .enough (omega (arith, nops .1));
@@ -45,9 +44,14 @@ module _ (w : ℕ) (small : w ≤ 15) (history : List Call) where
         unmoved = idle-unmoved w small s ms idle i reached;
       }
 
-  -- any list of calls on a fresh board with any W from 0 to 15
   pub never-stranded : NeverStranded standIn w history
   never-stranded = record {
     ranged = fits-then-ranged w (after standIn (made w) history .board) (after standIn (made w) history .place) small (reached .board) (reached .place);
     nops = nops-bring;
   }
+
+pub demand-3 : Demand3 standIn
+demand-3 = record { rest = never-stranded; closing = closing-replies }
+
+pub place-demand-3 : PlaceDemand3 standIn
+place-demand-3 = record { rest = place-rests; closing = place-closes }

@@ -14,7 +14,7 @@ use Rattle.promises.specs.Words.{Word, Stage, stage, Closing, closing, c
 use Rattle.promises.specs.Words.Closing.{reply}
 use Rattle.promises.specs.Words.Stage.{operandDue, waitDue, upperDue, closed}
 use Rattle.promises.specs.Environment.{Found, isRest, Trail, heardAt, heard, givenAt, givenBy, noted, trail, begun}
-use Rattle.promises.specs.Promises.{nextReply, lastClosed, earlier, ClosingReplies}
+use Rattle.promises.specs.Promises.{nextReply, lastClosed, earlier, PlaceCloses}
 use Rattle.promises.specs.Fits.{FoundFits, AllFit}
 use Rattle.promises.specs.Fits.AllFit.{none, more}
 use Rattle.promises.specs.OperandLaws.{held}
@@ -87,8 +87,8 @@ pub kept-from-fresh : (w : ℕ) (fs : List Found) → AllFit w fs → Kept w (tr
 unfolding freshPlace
 kept-from-fresh w fs fit = kept-trail w begun fs fit (record { tells = refl; paid = refl })
 
-pub closing-replies-kept : (w : ℕ) (t : Trail) → Kept w t → ClosingReplies standIn t
-closing-replies-kept w t h = record {
+pub place-closes-kept : (w : ℕ) (t : Trail) → Kept w t → PlaceCloses standIn t
+place-closes-kept w t h = record {
   last = λ o os e r.
       let ends : isClosed (stage o) ≡ true = sym (ap lastClosed e) ∙ sym (told-rest w (t .place .phase) (t .place .next) (t .words) (h .tells)) ∙ r in
       closed-reply (stage o) ends ∙ ap reply (sym (ap nextReply e) ∙ sym (next-reply w t h));
@@ -98,5 +98,5 @@ closing-replies-kept w t h = record {
 }
 
 -- Whatever board of W and memory within the limit each of its packets finds, each command word gets one closing reply, in the order sent.
-pub closing-replies-anywhere : (w : ℕ) (fs : List Found) → AllFit w fs → ClosingReplies standIn (trail standIn begun fs)
-closing-replies-anywhere w fs fit = closing-replies-kept w (trail standIn begun fs) (kept-from-fresh w fs fit)
+pub place-closes : (w : ℕ) (fs : List Found) → AllFit w fs → PlaceCloses standIn (trail standIn begun fs)
+place-closes w fs fit = place-closes-kept w (trail standIn begun fs) (kept-from-fresh w fs fit)

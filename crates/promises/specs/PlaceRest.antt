@@ -15,18 +15,14 @@ use Rattle.promises.specs.Machine.{standIn}
 use Rattle.promises.specs.Words.{Word, Stage, stage, isClosed}
 use Rattle.promises.specs.Words.Stage.{operandDue, waitDue, upperDue, closed}
 use Rattle.promises.specs.Environment.{Found, isRest, Trail, heardAt, heard, noted, trail, begun, underWay}
-use Rattle.promises.specs.Promises.{lastClosed, ClosingReplies, BroughtToRest}
-use Rattle.promises.specs.Fits.{DueFits, WaitFits, PhaseFits, PlaceFits, BoardFits, MemoryFits, FoundFits, AllFit}
+use Rattle.promises.specs.Promises.{lastClosed, PlaceCloses, PlaceRests}
+use Rattle.promises.specs.Fits.{DueFits, WaitFits, PhaseFits, PlaceFits, BoardFits, MemoryFits, FoundFits, AllFit, AllNops}
 use Rattle.promises.specs.Fits.AllFit.{none, more}
+use Rattle.promises.specs.Fits.AllNops.{done, nop}
 use Rattle.promises.specs.PacketFits.{place-fits-after}
 use Rattle.promises.specs.ToGo.{toGo, to-go-at-most, none-to-go}
 use Rattle.promises.specs.NopLaws.{nop-takes-one-off}
-use Rattle.promises.specs.PlaceClosing.{Kept, kept-noted, kept-from-fresh, closing-replies-kept}
-
--- packets that are all NOPs, with whatever each may find on a board made with W
-pub data AllNops (w : ℕ) : List Found → Type 0 where
-  done : AllNops w []
-  nop : {fs : List Found} (b : Board) (m : List ℕ) → BoardFits w b → MemoryFits m → AllNops w fs → AllNops w (record { board = b; memory = m; word = 0 } ∷ fs)
+use Rattle.promises.specs.PlaceClosing.{Kept, kept-noted, kept-from-fresh, place-closes-kept}
 
 pub place-fits-trail : (w : ℕ) (t : Trail) (fs : List Found) → AllFit w fs → PlaceFits w (t .place) → PlaceFits w (trail standIn t fs .place)
 unfolding trail
@@ -75,20 +71,20 @@ brings w t fs (nop {fs = gs} b m board memory others) k h =
     let next : Brings w (noted standIn t f) gs =
     brings w (noted standIn t f) gs others (kept-noted w t f (board .setting) k) (place-fits-after w b (t .place) m board h memory 0) in
     let taken : length (heard f (t .place) (t .words)) + cond (isRest (t .place .phase)) 0 1 ≡ suc (length (t .words)) =
-    rw (closing-replies-kept w t k .rests) (one-word-more f (t .place) (t .words)) in
+    rw (place-closes-kept w t k .rests) (one-word-more f (t .place) (t .words)) in
     record {
       rest = λ l. next .rest (omega arith);
       number = omega (arith, next .number, some-to-go w (t .place .phase) (h .phase), one-at-most (isRest (t .place .phase)));
       words = omega (arith, next .words);
     }
 
-pub brought-to-rest : (w : ℕ) (t : Trail) (fs : List Found) → AllNops w fs → Kept w t → PlaceFits w (t .place) → BroughtToRest standIn w t fs
-brought-to-rest w t fs nops k h =
+pub place-rests-from : (w : ℕ) (t : Trail) (fs : List Found) → AllNops w fs → Kept w t → PlaceFits w (t .place) → PlaceRests standIn w t fs
+place-rests-from w t fs nops k h =
     let all : Brings w t fs = brings w t fs nops k h in
     let most : toGo w (t .place .phase) ≤ 4 + w = to-go-at-most w (t .place .phase) (h .phase) in
     record { enough = λ l. all .rest (omega arith); atMost = omega (arith, all .number); noneTaken = all .words }
 
 -- Whatever each packet before has found and each NOP finds, 4 + W NOPs bring the place to rest.
-pub rest-anywhere : (w : ℕ) (before idle : List Found) → AllFit w before → AllNops w idle → BroughtToRest standIn w (trail standIn begun before) idle
-rest-anywhere w before idle fit nops =
-    brought-to-rest w (trail standIn begun before) idle nops (kept-from-fresh w before fit) (place-fits-trail w begun before fit (fresh-place-fits w))
+pub place-rests : (w : ℕ) (before idle : List Found) → AllFit w before → AllNops w idle → PlaceRests standIn w (trail standIn begun before) idle
+place-rests w before idle fit nops =
+    place-rests-from w (trail standIn begun before) idle nops (kept-from-fresh w before fit) (place-fits-trail w begun before fit (fresh-place-fits w))

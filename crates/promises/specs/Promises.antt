@@ -11,6 +11,7 @@ use Rattle.promises.specs.Machine.{State, Machine}
 use Rattle.promises.specs.Words.{Word, stage, Closing, closing, replyAt, isClosed}
 use Rattle.promises.specs.Words.Closing.{reply}
 use Rattle.promises.specs.Environment.{Found, isRest, Trail, trail, begun, handed, underWay}
+use Rattle.promises.specs.Fits.{AllFit, AllNops}
 use Rattle.promises.specs.History.{Lent, Call, after, finds, made, Idle, nops}
 
 -- the reply that the rules give next: for the last word, or on a fresh board "next reply 0x0FFFF"
@@ -27,8 +28,8 @@ abbrev pub earlier : List Word → List Word
 earlier [] = []
 earlier (o ∷ os) = os
 
--- Each command word gets one closing reply, in the order sent.
-pub record ClosingReplies (k : Machine) (t : Trail) : Type 0 where
+-- Each command word of a place gets one closing reply, in the order sent.
+pub record PlaceCloses (k : Machine) (t : Trail) : Type 0 where
   -- At rest, the next packet carries out the closing reply of the last command word taken.
   pub last : (o : Word) (os : List Word) → t .words ≡ o ∷ os → isRest (t .place .phase) ≡ true → closing o ≡ reply (k .reply (t .place))
   -- The port is at rest exactly where that reply is the next one, so that the packet which carries it out is the next command word.
@@ -39,7 +40,7 @@ pub record ClosingReplies (k : Machine) (t : Trail) : Type 0 where
   pub inOrder : map closing (earlier (t .words)) ≡ map reply (t .given)
 
 -- Packets that are all NOPs bring a place to rest, whatever board and memory each of them finds.
-pub record BroughtToRest (k : Machine) (w : ℕ) (t : Trail) (fs : List Found) : Type 0 where
+pub record PlaceRests (k : Machine) (w : ℕ) (t : Trail) (fs : List Found) : Type 0 where
   -- With 4 + W of them or more the port is at rest.
   pub enough : 4 + w ≤ length fs → isRest (trail k t fs .place .phase) ≡ true
   -- At most 4 + W of them find it not at rest.
@@ -64,20 +65,41 @@ pub record Unmoved (k : Machine) (s : State) (ms : List Lent) (idle : List Call)
   -- Each NOP has carried out the same reply and left the same memory.
   pub handed : handed k (s .place) (finds k s idle) ≡ handed k (s .place) (finds k s (nops ms))
 
--- What follows holds of a state and the trail of the history that led to it.
+-- NOPs from a state that a history leads to, with whatever events and breakpoint inputs between them.
 pub record NopsBring (k : Machine) (w : ℕ) (s : State) (t : Trail) (ms : List Lent) (idle : List Call) : Type 0 where
   -- Every one of the NOPs is accepted.
   pub accepted : length (finds k s idle) ≡ length ms
-  -- With 4 + W NOPs or more the port is at rest, whatever comes between them.
+  -- With 4 + W NOPs or more the port is at rest.
   pub enough : 4 + w ≤ length ms → isRest (after k s idle .place .phase) ≡ true
   -- It takes at most 4 + W of them, none of which is taken as a command word.
-  pub brought : BroughtToRest k w t (finds k s idle)
+  pub brought : PlaceRests k w t (finds k s idle)
   -- What comes between makes no difference to how many it takes or what the port then holds.
   pub unmoved : Unmoved k s ms idle
 
+-- a history's command words and closing replies
+abbrev pub trailOf : Machine → ℕ → List Call → Trail
+trailOf k w history = trail k begun (finds k (made w) history)
+
 -- No history strands the port.
 pub record NeverStranded (k : Machine) (w : ℕ) (history : List Call) : Type 0 where
-  -- The state it leads to is within the ranges of ground 12.
+  -- The state that it leads to is within the ranges of ground 12.
   pub ranged : inRange (after k (made w) history .board) (after k (made w) history .place) ≡ true
-  -- NOPs, each lent whatever memory within the limit, with whatever events and breakpoint inputs between, bring it to rest.
-  pub nops : (ms : List Lent) (idle : List Call) → Idle ms idle → NopsBring k w (after k (made w) history) (trail k begun (finds k (made w) history)) ms idle
+  -- From there NOPs bring the port to rest, whatever memory within the limit each is lent and whatever comes between.
+  pub nops : (ms : List Lent) (idle : List Call) → Idle ms idle → NopsBring k w (after k (made w) history) (trailOf k w history) ms idle
+
+-- Over a whole history each command word gets one closing reply, in the order sent.
+pub record ClosingReplies (k : Machine) (w : ℕ) (history : List Call) : Type 0 where
+  -- The words are noted along the places that the history really leads to.
+  pub place : after k (made w) history .place ≡ trailOf k w history .place
+  -- They get their closing replies.
+  pub closes : PlaceCloses k (trailOf k w history)
+
+-- DEMAND 3: of any list of calls on a fresh board with any W from 0 to 15.
+pub record Demand3 (k : Machine) : Type 0 where
+  pub rest : (w : ℕ) → w ≤ 15 → (history : List Call) → NeverStranded k w history
+  pub closing : (w : ℕ) → w ≤ 15 → (history : List Call) → ClosingReplies k w history
+
+-- DEMAND 3, place by place: of a place whose packets find any boards of one W and any memory within the limit.
+pub record PlaceDemand3 (k : Machine) : Type 0 where
+  pub rest : (w : ℕ) (before idle : List Found) → AllFit w before → AllNops w idle → PlaceRests k w (trail k begun before) idle
+  pub closing : (w : ℕ) (before : List Found) → AllFit w before → PlaceCloses k (trail k begun before)
