@@ -23,3 +23,5 @@ pub mod NeverStranded
 pub mod Lending
 pub mod ByEye
 pub mod Tight
+pub mod Code
+pub mod Refuted
