@@ -1,12 +1,11 @@
 -- The ranges of 12 are kept: what a command's work leaves of the board is within them.
 use Prim.Native.Nat.{ℕ, zero, suc, _/_, _%_, _^_, _<_}
 use mathlib.Core.Path.{_≡_, refl}
-use mathlib.Core.Bool.{Bool, true, false, cond, _||_}
+use mathlib.Core.Bool.{true, _||_}
 use mathlib.Core.List.{List, [], _∷_}
 use lib.Dec.{eqb}
 use lib.ListN.{getD, set}
 use native.Mathlib.Omega.{arith}
-use borrow.Author.Tests.{eqb-true}
 use Rattle.command.specs.declared.Command.{Command}
 use Rattle.command.specs.declared.Command.the-variants.{Unknown, Rdreg, Wdreg, Read, Write, Dump, Fill, Go, Nop, SyncPc, Rcreg, Wcreg, Rdmreg, Wdmreg}
 use Rattle.command.specs.declared.DebugRegister.{DebugRegister}
@@ -14,7 +13,7 @@ use Rattle.board.specs.declared.Board.{Board}
 use Rattle.board.specs.declared.Status.{Status}
 use Rattle.board.specs.Ranges.{bstatInRange}
 use Rattle.registers.specs.Csr.{bstatRead, afterCsrRead, afterGo, afterSyncPc}
-use Rattle.registers.specs.Registers.{controlPlace, controlListed, withStatus, withRegisters, withControl, withGeneral, isTdr, armed, debugWritten, withDebugWritten, boardAfter}
+use Rattle.registers.specs.Registers.{controlPlace, controlListed, withStatus, withRegisters, withControl, withGeneral, isTdr, armed, withDebugWritten, boardAfter}
 use Rattle.promises.specs.Fits.{BoardFits}
 use Rattle.promises.specs.PlanFits.{by-test}
 

@@ -2,7 +2,7 @@
 -- that command has neither operands nor waits, so no NOP does it.
 use Prim.Native.Nat.{ℕ, _+_, _-_, _≤_}
 use mathlib.Core.Path.{_≡_, refl, sym, _∙_}
-use mathlib.Core.Bool.{Bool, true, false, cond}
+use mathlib.Core.Bool.{Bool, cond}
 use lib.Dec.{eqb}
 use native.Mathlib.Omega.{arith}
 use Rattle.command.specs.declared.Command.{Command}
@@ -15,7 +15,7 @@ use Rattle.board.specs.declared.Chain.{Chain}
 use Rattle.plan.specs.declared.Plan.{Plan}
 use Rattle.plan.specs.declared.Plan.the-variants.{Hold, Reject, Release, Work}
 use Rattle.plan.specs.Plan.{carriesC, addressIn, valueIn, withOperand, ready, waitsOf, collected, continued, planOf}
-use Rattle.promises.specs.Fits.{DueFits, PhaseFits}
+use Rattle.promises.specs.Fits.{PhaseFits}
 use Rattle.promises.specs.PlanFits.{by-test}
 use Rattle.promises.specs.NopLaws.{nop-at-rest}
 

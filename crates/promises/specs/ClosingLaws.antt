@@ -1,10 +1,9 @@
 -- Demand 3, closing replies: what the place tells of the last command word is kept by every packet, whatever board and memory it finds.
 use Prim.Native.Nat.{ℕ, suc, _+_, _-_, _≤_}
 use mathlib.Core.Path.{_≡_, refl, sym, ap, _∙_, subst}
-use mathlib.Core.Bool.{Bool, true, false}
 use mathlib.Core.List.{List, [], _∷_, _++_}
 use lib.Dec.{eqb}
-use lib.ListN.{length, length-append}
+use lib.ListN.{length-append}
 use native.Mathlib.Omega.{arith}
 use borrow.Author.Tests.{eqb-true}
 use Rattle.command.specs.declared.Command.{Command}
@@ -19,12 +18,12 @@ use Rattle.work.specs.declared.Ending.the-variants.{Complete, Failed, OneWord, 
 use Rattle.work.specs.Access.{accessOf}
 use Rattle.work.specs.Work.{firstReply, phaseAfter, endingOf}
 use Rattle.plan.specs.declared.Plan.{Plan}
-use Rattle.plan.specs.declared.Plan.the-variants.{Hold, Reject, Release, Work}
+use Rattle.plan.specs.declared.Plan.the-variants.{Hold, Reject, Work}
 use Rattle.plan.specs.Plan.{carriesC, lawful, noOperands, withOperand, addressIn, valueIn, ready, waitsOf, collected, begun, continued, planOf}
 use Rattle.port.specs.Packets.{placeBy, planFor, placeNext}
-use Rattle.promises.specs.Words.{Word, Stage, anyC, endingFound, ended, stage}
-use Rattle.promises.specs.Words.Stage.{operandDue, waitDue, upperDue, closed}
-use Rattle.promises.specs.Environment.{Found, begins, goesOn, showsUpper, heardAt, heard}
+use Rattle.promises.specs.Words.{Word, endingFound, ended, stage}
+use Rattle.promises.specs.Words.Stage.{upperDue, closed}
+use Rattle.promises.specs.Environment.{Found, begins, goesOn, showsUpper, heard}
 use Rattle.promises.specs.PlanFits.{by-test, not-none}
 use Rattle.promises.specs.OperandLaws.{held, held-end, any-c-end}
 use Rattle.promises.specs.StageLaws.{Open, stage-due, stage-waiting, stage-ended, stage-shown, ending-held}

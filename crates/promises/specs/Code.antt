@@ -1,7 +1,7 @@
 -- The promises are about the code: what the contracts of make, take_packet, take_event and press_breakpoint say of an answer forces
 -- exactly the step that a history takes.
 use Prim.Native.Nat.{ℕ, _≤_}
-use mathlib.Core.Path.{_≡_, refl, sym, ap, ap₂, _∙_}
+use mathlib.Core.Path.{_≡_, refl, ap, ap₂, _∙_}
 use mathlib.Core.List.{List}
 use borrow.Author.Tests.{le-leb}
 use Rattle.grounds.specs.declared.Ground.{Ground}
@@ -10,18 +10,18 @@ use Rattle.grounds.specs.declared.Verdict.the-variants.{Accepted, Refused}
 use Rattle.board.specs.declared.Board.{Board}
 use Rattle.board.specs.declared.Place.{Place}
 use Rattle.board.specs.declared.Made.{Made}
-use Rattle.board.specs.Board.{freshBoard, freshPlace, settingMade, MakingMeets}
+use Rattle.board.specs.Board.{MakingMeets}
 use Rattle.trigger.specs.declared.Event.{Event}
 use Rattle.port.specs.declared.Answer.{Answer}
 use Rattle.port.specs.declared.Outcome.the-variants.{Reply, Refusing}
-use Rattle.port.specs.Packets.{packetVerdict, replyNow, placeNext, boardNext, memoryNext, said, answered, unless}
+use Rattle.port.specs.Packets.{packetVerdict, replyNow, placeNext, boardNext, memoryNext, said, unless}
 use Rattle.port.specs.Promise.{PacketMeets}
 use Rattle.bus.specs.declared.EventAnswer.{EventAnswer}
 use Rattle.bus.specs.declared.BreakpointAnswer.{BreakpointAnswer}
 use Rattle.bus.specs.Events.{eventVerdict, breakpointVerdict, EventMeets, BreakpointMeets}
 use Rattle.bus.specs.EventLaws.{refused-event-changes-nothing, refused-breakpoint-changes-nothing}
 use Rattle.promises.specs.Machine.{State, state, standIn}
-use Rattle.promises.specs.History.{Lent, Call, taking, afterCall, made}
+use Rattle.promises.specs.History.{Lent, afterCall, made}
 use Rattle.promises.specs.History.Call.{packet, event, breakpoint}
 
 -- what an accepted packet hands back

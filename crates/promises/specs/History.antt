@@ -2,8 +2,6 @@
 use Prim.Native.Nat.{ℕ, _<_, _≤_}
 use mathlib.Core.List.{List, [], _∷_}
 use lib.ListN.{getD, length}
-use Rattle.grounds.specs.declared.Verdict.{Verdict}
-use Rattle.grounds.specs.declared.Verdict.the-variants.{Accepted, Refused}
 use Rattle.board.specs.Board.{freshBoard, freshPlace}
 use Rattle.trigger.specs.declared.Event.{Event}
 use Rattle.port.specs.Packets.{unless}

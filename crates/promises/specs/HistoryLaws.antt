@@ -1,6 +1,6 @@
 -- Demand 3: what every call of a history keeps, and a history as one place in the environment that its calls make.
 use Prim.Native.Nat.{ℕ, zero, suc, _^_, _≤_, _<_}
-use mathlib.Core.Path.{_≡_, refl, sym, ap, _∙_, subst}
+use mathlib.Core.Path.{_≡_, refl, ap}
 use mathlib.Core.Bool.{Bool, true, false, cond, _&&_}
 use mathlib.Core.List.{List, [], _∷_}
 use lib.Dec.{leb}
@@ -12,18 +12,17 @@ use Rattle.grounds.specs.declared.Verdict.{Verdict}
 use Rattle.grounds.specs.declared.Verdict.the-variants.{Accepted, Refused}
 use Rattle.board.specs.declared.Board.{Board}
 use Rattle.board.specs.declared.Place.{Place}
-use Rattle.board.specs.Board.{freshBoard, freshPlace}
+use Rattle.board.specs.Board.{freshBoard}
 use Rattle.board.specs.Ranges.{inRange, phaseInRange, bstatInRange}
 use Rattle.trigger.specs.declared.Event.{Event}
-use Rattle.registers.specs.Registers.{withStatus}
-use Rattle.port.specs.Packets.{packetVerdict, placeNext, boardNext, unless}
+use Rattle.port.specs.Packets.{packetVerdict, placeNext, unless}
 use Rattle.bus.specs.Events.{boardAfterEvent, boardAfterBreakpoint}
 use Rattle.bus.specs.EventLaws.{event-changes-status-alone, breakpoint-changes-status-alone, event-keeps-ranges, breakpoint-keeps-ranges}
-use Rattle.promises.specs.Machine.{State, state, standIn}
+use Rattle.promises.specs.Machine.{State, standIn}
 use Rattle.promises.specs.Environment.{Found, Trail, noted, trail}
 use Rattle.promises.specs.History.{Lent, Call, finding, taking, afterCall, after, foundBy, finds, made}
 use Rattle.promises.specs.History.Call.{packet, event, breakpoint}
-use Rattle.promises.specs.Fits.{PlaceFits, BoardFits, MemoryFits, FoundFits, AllFit}
+use Rattle.promises.specs.Fits.{PlaceFits, BoardFits, MemoryFits, AllFit}
 use Rattle.promises.specs.Fits.AllFit.{none, more}
 use Rattle.promises.specs.BoardFits.{status-fits}
 use Rattle.promises.specs.PacketFits.{place-fits-after, board-fits-after, fits-then-ranged}

@@ -1,23 +1,21 @@
 -- Demand 3: NOPs after a history. Each is accepted, and what comes between them makes no difference.
 use Prim.Native.Nat.{ℕ, suc, _+_, _≤_}
 use mathlib.Core.Path.{_≡_, refl, sym, ap, ap₂, _∙_, subst, subst₂}
-use mathlib.Core.Bool.{Bool, true, false, cond}
-use mathlib.Core.List.{List, [], _∷_}
+use mathlib.Core.Bool.{cond}
+use mathlib.Core.List.{List, _∷_}
 use lib.ListN.{length}
 use native.Mathlib.Omega.{arith}
-use Rattle.grounds.specs.declared.Verdict.{Verdict}
-use Rattle.grounds.specs.declared.Verdict.the-variants.{Accepted, Refused}
+use Rattle.grounds.specs.declared.Verdict.the-variants.{Accepted}
 use Rattle.board.specs.declared.Board.{Board}
 use Rattle.board.specs.declared.Place.{Place}
 use Rattle.board.specs.declared.Status.{Status}
-use Rattle.trigger.specs.declared.Event.{Event}
 use Rattle.registers.specs.Registers.{withStatus}
-use Rattle.port.specs.Packets.{packetVerdict, replyNow, placeNext, boardNext, memoryNext, unless}
+use Rattle.port.specs.Packets.{packetVerdict, replyNow, placeNext, boardNext, memoryNext}
 use Rattle.bus.specs.Events.{boardAfterEvent, boardAfterBreakpoint}
 use Rattle.bus.specs.EventLaws.{event-changes-status-alone, breakpoint-changes-status-alone}
-use Rattle.promises.specs.Machine.{State, state, standIn}
-use Rattle.promises.specs.Environment.{Found, isRest, Handed, handed, underWay}
-use Rattle.promises.specs.History.{Lent, Call, finding, taking, afterCall, after, finds, Idle, nops}
+use Rattle.promises.specs.Machine.{State, standIn}
+use Rattle.promises.specs.Environment.{isRest, Handed, handed, underWay}
+use Rattle.promises.specs.History.{Lent, Call, taking, afterCall, after, finds, Idle, nops}
 use Rattle.promises.specs.History.Call.{packet, event, breakpoint}
 use Rattle.promises.specs.History.Idle.{none, nop, withEvent, withBreakpoint}
 use Rattle.promises.specs.Promises.{SameButStatus, Unmoved}

@@ -1,13 +1,12 @@
 -- DEMAND 3, "no history strands the port": the theorems.
-use Prim.Native.Nat.{ℕ, _+_, _≤_}
-use mathlib.Core.Path.{_≡_, refl, sym, ap, _∙_, subst}
-use mathlib.Core.Bool.{true}
+use Prim.Native.Nat.{ℕ, _≤_}
+use mathlib.Core.Path.{_≡_, refl, ap, _∙_, subst}
 use mathlib.Core.List.{List}
 use lib.ListN.{length}
 use native.Mathlib.Omega.{arith}
 use Rattle.board.specs.declared.Place.{Place}
 use Rattle.promises.specs.Machine.{State, standIn}
-use Rattle.promises.specs.Environment.{Found, isRest, Trail, trail, begun}
+use Rattle.promises.specs.Environment.{isRest, Trail, begun}
 use Rattle.promises.specs.History.{Lent, Call, after, finds, made, Idle}
 use Rattle.promises.specs.Promises.{PlaceRests, NopsBring, trailOf, NeverStranded, ClosingReplies, Demand3, PlaceDemand3}
 use Rattle.promises.specs.Fits.{AllFit, AllNops, PlaceFits}

@@ -11,11 +11,10 @@ use Rattle.board.specs.declared.Place.{Place}
 use Rattle.board.specs.declared.Phase.{Phase}
 use Rattle.board.specs.declared.Phase.the-variants.{Rest, Due, Waiting, Low}
 use Rattle.board.specs.declared.Chain.{Chain}
-use Rattle.plan.specs.declared.Plan.{Plan}
-use Rattle.plan.specs.declared.Plan.the-variants.{Hold, Reject, Release, Work}
+use Rattle.plan.specs.declared.Plan.the-variants.{Work}
 use Rattle.plan.specs.Plan.{ready, waitsOf, collected, begun, continued, planOf}
 use Rattle.port.specs.Packets.{planFor, placeNext}
-use Rattle.promises.specs.Fits.{DueFits, WaitFits, PhaseFits}
+use Rattle.promises.specs.Fits.{PhaseFits}
 use Rattle.promises.specs.ToGo.{uppers, toGo, PlanWithin, within-more, place-within, ready-within, continued-within}
 
 -- at rest a NOP does its work at once, halted or running, in or out of a chain

@@ -1,25 +1,21 @@
 -- Demand 3, closing replies: the operands that the port holds, against those that a command word was sent.
-use Prim.Native.Nat.{ℕ, zero, suc, _+_, _-_, _≤_}
-use mathlib.Core.Path.{_≡_, refl, sym, ap, _∙_, subst}
-use mathlib.Core.Bool.{Bool, true, false, cond, _||_}
+use Prim.Native.Nat.{ℕ}
+use mathlib.Core.Path.{_≡_, refl, ap}
+use mathlib.Core.Bool.{Bool, true, false, _||_}
 use mathlib.Core.List.{List, [], _∷_, _++_}
-use lib.Dec.{eqb}
-use lib.ListN.{length, length-append}
+use lib.ListN.{length}
 use native.Mathlib.Omega.{arith}
-use borrow.Author.Tests.{eqb-true, eq-eqb, ne-eqb}
 use Rattle.command.specs.declared.Command.{Command}
 use Rattle.command.specs.declared.Command.the-variants.{Unknown, Rdreg, Wdreg, Read, Write, Dump, Fill, Go, Nop, SyncPc, Rcreg, Wcreg, Rdmreg, Wdmreg}
-use Rattle.memory.specs.declared.Size.{Size}
 use Rattle.memory.specs.declared.Size.the-variants.{Byte, Word as Half, Long}
-use Rattle.command.specs.Command.{decoded, operandWords}
+use Rattle.command.specs.Command.{operandWords}
 use Rattle.board.specs.declared.Operands.{Operands}
 use Rattle.board.specs.declared.Board.{Board}
 use Rattle.work.specs.declared.Ending.{Ending}
 use Rattle.work.specs.Access.{accessOf}
 use Rattle.work.specs.Work.{endingOf}
-use Rattle.plan.specs.Plan.{carriesC, lawful, long, noOperands, withOperand, addressIn, waitsOf}
-use Rattle.promises.specs.Words.{Word, Stage, anyC, addressSent, endingFound, ended, stageBy, stage}
-use Rattle.promises.specs.Words.Stage.{operandDue, waitDue, upperDue, closed}
+use Rattle.plan.specs.Plan.{carriesC, noOperands, withOperand, addressIn}
+use Rattle.promises.specs.Words.{anyC, addressSent}
 
 -- the operand words as the port holds them, the last four
 abbrev pub held : Operands → List ℕ → Operands

@@ -1,31 +1,25 @@
 -- The ranges of 12 are kept by every call, and a state that keeps them is not refused.
-use Prim.Native.Nat.{ℕ, _/_, _%_, _^_, _≤_, _<_}
-use mathlib.Core.Path.{_≡_, refl, sym, ap, _∙_, subst}
-use mathlib.Core.Bool.{Bool, true, false, _&&_}
+use Prim.Native.Nat.{ℕ, _≤_}
+use mathlib.Core.Path.{_≡_, refl}
+use mathlib.Core.Bool.{true}
 use mathlib.Core.List.{List}
-use lib.Dec.{leb}
 use lib.ListN.{length}
 use native.Mathlib.Omega.{arith}
 use borrow.Author.Tests.{le-leb}
-use Rattle.grounds.specs.declared.Verdict.{Verdict}
-use Rattle.grounds.specs.declared.Verdict.the-variants.{Accepted, Refused}
-use Rattle.command.specs.declared.Command.{Command}
+use Rattle.grounds.specs.declared.Verdict.the-variants.{Accepted}
 use Rattle.board.specs.declared.Board.{Board}
 use Rattle.board.specs.declared.Place.{Place}
 use Rattle.board.specs.declared.Phase.{Phase}
 use Rattle.board.specs.declared.Phase.the-variants.{Rest, Due, Waiting, Low}
-use Rattle.board.specs.Board.{freshBoard, freshPlace}
-use Rattle.board.specs.Ranges.{phaseInRange, bstatInRange, inRange}
-use Rattle.work.specs.declared.Access.{Access}
+use Rattle.board.specs.Ranges.{phaseInRange, inRange}
 use Rattle.work.specs.declared.Ending.{Ending}
 use Rattle.work.specs.declared.Ending.the-variants.{Complete, Failed, OneWord, TwoWords}
 use Rattle.work.specs.Access.{accessOf}
 use Rattle.work.specs.Work.{firstReply, phaseAfter, endingOf}
 use Rattle.plan.specs.declared.Plan.{Plan}
 use Rattle.plan.specs.declared.Plan.the-variants.{Hold, Reject, Release, Work}
-use Rattle.plan.specs.Plan.{planOf}
 use Rattle.port.specs.Packets.{placeBy, boardBy, planFor, placeNext, boardNext, packetVerdict}
-use Rattle.promises.specs.Fits.{DueFits, WaitFits, PhaseFits, PlaceFits, BoardFits, MemoryFits}
+use Rattle.promises.specs.Fits.{PhaseFits, PlaceFits, BoardFits, MemoryFits}
 use Rattle.promises.specs.PlanFits.{PlanFits, plan-fits}
 use Rattle.promises.specs.WorkFits.{AccessFits, access-fits, pointer-fits, EndingFits, ending-fits}
 use Rattle.promises.specs.BoardFits.{board-fits}

@@ -1,7 +1,7 @@
 -- Demand 3 of one place in any environment: each command word gets one closing reply, in the order sent.
 use Prim.Native.Nat.{ℕ}
 use mathlib.Core.Path.{_≡_, refl, sym, ap, _∙_}
-use mathlib.Core.Bool.{Bool, true, false}
+use mathlib.Core.Bool.{true, false}
 use mathlib.Core.List.{List, [], _∷_, map}
 use Rattle.board.specs.declared.Place.{Place}
 use Rattle.board.specs.declared.Phase.{Phase}
@@ -9,17 +9,17 @@ use Rattle.board.specs.declared.Phase.the-variants.{Rest, Due, Waiting, Low}
 use Rattle.board.specs.Board.{freshPlace}
 use Rattle.plan.specs.Plan.{noOperands}
 use Rattle.port.specs.Packets.{replyIn, replyNow}
-use Rattle.promises.specs.Machine.{Machine, standIn}
-use Rattle.promises.specs.Words.{Word, Stage, stage, Closing, closing, closingAt, replyAt, isClosed}
+use Rattle.promises.specs.Machine.{standIn}
+use Rattle.promises.specs.Words.{Word, Stage, stage, closing, closingAt, replyAt, isClosed}
 use Rattle.promises.specs.Words.Closing.{reply}
 use Rattle.promises.specs.Words.Stage.{operandDue, waitDue, upperDue, closed}
 use Rattle.promises.specs.Environment.{Found, isRest, Trail, heardAt, heard, givenAt, givenBy, noted, trail, begun}
 use Rattle.promises.specs.Promises.{nextReply, lastClosed, earlier, PlaceCloses}
-use Rattle.promises.specs.Fits.{FoundFits, AllFit}
+use Rattle.promises.specs.Fits.{AllFit}
 use Rattle.promises.specs.Fits.AllFit.{none, more}
 use Rattle.promises.specs.OperandLaws.{held}
 use Rattle.promises.specs.StageLaws.{stage-due, stage-waiting}
-use Rattle.promises.specs.ClosingLaws.{Waits, Tells, PlaceTells, tells-next}
+use Rattle.promises.specs.ClosingLaws.{Tells, PlaceTells, tells-next}
 
 module _ (w : ℕ) where
   told-next : (phase : Phase) (next : ℕ) (os : List Word) → Tells w phase next os → replyIn phase next ≡ nextReply os

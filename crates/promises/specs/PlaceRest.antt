@@ -1,11 +1,10 @@
 -- Demand 3 of one place in any environment: 4 + W NOPs bring it to rest, and none of them is taken as a command word before.
 use Prim.Native.Nat.{ℕ, suc, _+_, _-_, _≤_, zero-le}
-use mathlib.Core.Path.{_≡_, refl, sym, ap, _∙_}
+use mathlib.Core.Path.{_≡_, refl, ap}
 use mathlib.Core.Bool.{Bool, true, false, cond}
 use mathlib.Core.List.{List, [], _∷_}
 use lib.ListN.{length}
 use native.Mathlib.Omega.{arith}
-use Rattle.board.specs.declared.Board.{Board}
 use Rattle.board.specs.declared.Place.{Place}
 use Rattle.board.specs.declared.Phase.{Phase}
 use Rattle.board.specs.declared.Phase.the-variants.{Rest, Due, Waiting, Low}
@@ -15,8 +14,8 @@ use Rattle.promises.specs.Machine.{standIn}
 use Rattle.promises.specs.Words.{Word, Stage, stage, isClosed}
 use Rattle.promises.specs.Words.Stage.{operandDue, waitDue, upperDue, closed}
 use Rattle.promises.specs.Environment.{Found, isRest, Trail, heardAt, heard, noted, trail, begun, underWay}
-use Rattle.promises.specs.Promises.{lastClosed, PlaceCloses, PlaceRests}
-use Rattle.promises.specs.Fits.{DueFits, WaitFits, PhaseFits, PlaceFits, BoardFits, MemoryFits, FoundFits, AllFit, AllNops}
+use Rattle.promises.specs.Promises.{lastClosed, PlaceRests}
+use Rattle.promises.specs.Fits.{PhaseFits, PlaceFits, AllFit, AllNops}
 use Rattle.promises.specs.Fits.AllFit.{none, more}
 use Rattle.promises.specs.Fits.AllNops.{done, nop}
 use Rattle.promises.specs.PacketFits.{place-fits-after}

@@ -1,10 +1,10 @@
 -- The ranges of 12 are kept: what a packet's input is taken for is within them.
-use Prim.Native.Nat.{ℕ, _+_, _-_, _*_, _^_, _≤_, _<_}
+use Prim.Native.Nat.{ℕ, _-_, _^_, _≤_, _<_}
 use mathlib.Core.Path.{_≡_, refl}
 use mathlib.Core.Bool.{Bool, true, false, cond, _||_}
 use lib.Dec.{eqb}
 use native.Mathlib.Omega.{arith}
-use borrow.Author.Tests.{eqb-false, eqb-true, leb-false}
+use borrow.Author.Tests.{eqb-false, leb-false}
 use Rattle.command.specs.declared.Command.{Command}
 use Rattle.command.specs.Command.{decoded, operandWords, waits}
 use Rattle.board.specs.declared.Operands.{Operands}
@@ -14,7 +14,7 @@ use Rattle.board.specs.declared.Chain.{Chain}
 use Rattle.plan.specs.declared.Plan.{Plan}
 use Rattle.plan.specs.declared.Plan.the-variants.{Hold, Reject, Release, Work}
 use Rattle.plan.specs.Plan.{carriesC, lawful, long, noOperands, withOperand, addressIn, valueIn, ready, waitsOf, collected, begun, continued, planOf}
-use Rattle.promises.specs.Fits.{OperandsFit, DueFits, WaitFits, PhaseFits}
+use Rattle.promises.specs.Fits.{OperandsFit, WaitFits, PhaseFits}
 
 abbrev pub PlanFits : ℕ → Plan → Type 0
 PlanFits w (Hold phase) = PhaseFits w phase

@@ -1,14 +1,13 @@
 -- Demand 3, "no history strands the port": its promises, one record each, of any machine.
 use Prim.Native.Nat.{ℕ, _+_, _≤_}
 use mathlib.Core.Path.{_≡_}
-use mathlib.Core.Bool.{Bool, true, false}
+use mathlib.Core.Bool.{Bool, true}
 use mathlib.Core.List.{List, [], _∷_, map}
 use lib.ListN.{length}
-use Rattle.grounds.specs.declared.Verdict.the-variants.{Accepted}
 use Rattle.board.specs.declared.Board.{Board}
 use Rattle.board.specs.Ranges.{inRange}
 use Rattle.promises.specs.Machine.{State, Machine}
-use Rattle.promises.specs.Words.{Word, stage, Closing, closing, replyAt, isClosed}
+use Rattle.promises.specs.Words.{Word, stage, closing, replyAt, isClosed}
 use Rattle.promises.specs.Words.Closing.{reply}
 use Rattle.promises.specs.Environment.{Found, isRest, Trail, trail, begun, handed, underWay}
 use Rattle.promises.specs.Fits.{AllFit, AllNops}

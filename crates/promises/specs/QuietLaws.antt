@@ -12,7 +12,6 @@ use Rattle.board.specs.declared.Place.{Place}
 use Rattle.registers.specs.Registers.{controlPlace, controlListed, controlFetched, withStatus, withRegisters, withControl, withDebugWritten, boardAfter}
 use Rattle.plan.specs.declared.Plan.{Plan}
 use Rattle.plan.specs.declared.Plan.the-variants.{Hold, Reject, Release, Work}
-use Rattle.plan.specs.Plan.{planOf}
 use Rattle.port.specs.Packets.{placeBy, boardBy, memoryBy, planFor, placeNext, boardNext, memoryNext}
 use Rattle.promises.specs.Promises.{SameButStatus}
 use Rattle.promises.specs.Fits.{PhaseFits}

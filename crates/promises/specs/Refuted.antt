@@ -1,5 +1,5 @@
 -- Demand 3 cannot be met trivially: said of a machine that breaks a rule it is false.
-use Prim.Native.Nat.{ℕ, zero, suc, _+_, _-_, _≤_}
+use Prim.Native.Nat.{ℕ, zero, suc, _-_, _≤_}
 use mathlib.Core.Path.{_≡_, refl, sym, ap, _∙_}
 use mathlib.Core.Bool.{Bool, true, false, cond, _&&_, true≢false}
 use mathlib.Core.List.{List, [], _∷_}
@@ -12,19 +12,18 @@ use Rattle.board.specs.declared.Phase.{Phase}
 use Rattle.board.specs.declared.Phase.the-variants.{Rest, Due, Waiting, Low}
 use Rattle.board.specs.Board.{freshBoard, freshPlace}
 use Rattle.board.specs.Ranges.{inRange, bstatInRange}
-use Rattle.memory.specs.Memory.{fetched, stored}
-use Rattle.registers.specs.Registers.{controlPlace, controlFetched, withControl}
+use Rattle.memory.specs.Memory.{fetched}
 use Rattle.trigger.specs.declared.Event.{Event}
 use Rattle.plan.specs.Plan.{carriesC, ready, collected, begun, continued}
 use Rattle.port.specs.Packets.{planFor, replyNow, placeNext, boardNext, packetVerdict}
-use Rattle.promises.specs.Machine.{State, state, Machine, standIn}
-use Rattle.promises.specs.Words.{stage, Closing, closing}
-use Rattle.promises.specs.Words.Closing.{notYet, reply}
-use Rattle.promises.specs.Environment.{Found, isRest, trail, begun as fresh}
-use Rattle.promises.specs.History.{Lent, Call, after, finds, made, Idle}
-use Rattle.promises.specs.History.Call.{packet, event}
+use Rattle.promises.specs.Machine.{state, Machine, standIn}
+use Rattle.promises.specs.Words.{stage, closing}
+use Rattle.promises.specs.Words.Closing.{reply}
+use Rattle.promises.specs.Environment.{Found, isRest, trail}
+use Rattle.promises.specs.History.{Call, after, finds, made, Idle}
+use Rattle.promises.specs.History.Call.{event}
 use Rattle.promises.specs.Fits.{MemoryFits, AllFit, AllNops}
-use Rattle.promises.specs.Promises.{lastClosed, NeverStranded, ClosingReplies, Demand3, PlaceDemand3}
+use Rattle.promises.specs.Promises.{Demand3, PlaceDemand3}
 use Rattle.promises.specs.HistoryLaws.{fresh-sound}
 use Rattle.promises.specs.Lending.{lent, sends}
 

@@ -1,8 +1,7 @@
 -- Demand 3, closing replies: the stage of a command word whose operands, waits or upper result word are still to come.
-use Prim.Native.Nat.{ℕ, suc, _+_, _≤_}
-use mathlib.Core.Path.{_≡_, refl, sym, ap, _∙_}
-use mathlib.Core.Bool.{Bool, true, false}
-use mathlib.Core.List.{List, [], _∷_}
+use Prim.Native.Nat.{ℕ, _+_, _≤_}
+use mathlib.Core.Path.{_≡_}
+use mathlib.Core.Bool.{true, false}
 use lib.Dec.{eqb}
 use lib.ListN.{length}
 use native.Mathlib.Omega.{arith}
@@ -10,13 +9,11 @@ use borrow.Author.Tests.{eq-eqb, ne-eqb}
 use Rattle.command.specs.declared.Command.{Command}
 use Rattle.command.specs.Command.{decoded, operandWords}
 use Rattle.board.specs.declared.Operands.{Operands}
-use Rattle.board.specs.declared.Board.{Board}
-use Rattle.work.specs.declared.Ending.{Ending}
 use Rattle.work.specs.Access.{accessOf}
 use Rattle.work.specs.Work.{endingOf}
 use Rattle.plan.specs.Plan.{lawful, noOperands, addressIn, waitsOf}
-use Rattle.promises.specs.Words.{Word, Stage, anyC, addressSent, endingFound, ended, stage}
-use Rattle.promises.specs.Words.Stage.{operandDue, waitDue, closed}
+use Rattle.promises.specs.Words.{Word, anyC, endingFound, ended, stage}
+use Rattle.promises.specs.Words.Stage.{operandDue, waitDue}
 use Rattle.promises.specs.Environment.{showsUpper}
 use Rattle.promises.specs.OperandLaws.{held, ending-sent}
 

@@ -6,7 +6,6 @@ use mathlib.Core.Bool.{Bool, true, false, cond}
 use mathlib.Core.List.{List}
 use lib.Dec.{eqb}
 use native.Mathlib.Omega.{arith}
-use borrow.Author.Tests.{eqb-true}
 use Rattle.memory.specs.declared.Size.{Size}
 use Rattle.memory.specs.declared.Size.the-variants.{Byte, Word, Long}
 use Rattle.memory.specs.declared.Fetch.{Fetch}
@@ -21,15 +20,14 @@ use Rattle.board.specs.declared.Operands.{Operands}
 use Rattle.board.specs.declared.Phase.{Phase}
 use Rattle.board.specs.declared.Phase.the-variants.{Rest, Due, Waiting, Low}
 use Rattle.registers.specs.Registers.{controlFetched}
-use Rattle.work.specs.declared.Access.{Access}
-use Rattle.work.specs.declared.Access.the-variants.{NoAccess, Fetched, Stored, Missing}
-use Rattle.work.specs.Access.{past, fetchedAccess, fetching, storing, accessOf}
+use Rattle.work.specs.declared.Access.the-variants.{Stored, Missing}
+use Rattle.work.specs.Access.{past, fetchedAccess, accessOf}
 use Rattle.work.specs.Work.{accessEnding, controlEnding, controlWriteEnding, endingOf, phaseAfter}
 use Rattle.plan.specs.declared.Plan.{Plan}
 use Rattle.plan.specs.declared.Plan.the-variants.{Hold, Reject, Release, Work}
 use Rattle.plan.specs.Plan.{carriesC, addressIn, valueIn, withOperand, ready, waitsOf, collected, continued}
 use Rattle.port.specs.Packets.{placeBy}
-use Rattle.promises.specs.Fits.{DueFits, WaitFits, PhaseFits}
+use Rattle.promises.specs.Fits.{PhaseFits}
 use Rattle.promises.specs.PlanFits.{by-test}
 
 -- the packets that carry out an upper result word: one where there are two words
