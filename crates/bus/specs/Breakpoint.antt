@@ -14,5 +14,5 @@ unfoldable pub pressed : Status → Debug → Pressed
 pressed s d = record { halted = not (s .halted) && not (bkd d); interrupt = not (s .halted) && bkd d }
 
 -- "halts and sets BKPT"
-abbrev pub statusPressed : Status → Pressed → Status
+unfoldable pub statusPressed : Status → Pressed → Status
 statusPressed s p = record { halted = s .halted || p .halted; fof = s .fof; trg = s .trg; halt = s .halt; bkpt = s .bkpt || p .halted; bstat = s .bstat; sync = s .sync }

@@ -70,5 +70,6 @@ event-keeps-ranges b p e within =
     (bstat-stays-in-range (firedLevel (b .status .bstat) (b .debug) e) (b .debug .tdr) (b .status .bstat))
 
 pub breakpoint-keeps-ranges : (b : Board) (p : Place) → inRange b p ≡ true → inRange (boardAfterBreakpoint b p) p ≡ true
+unfolding statusPressed
 breakpoint-keeps-ranges b p within =
     in-range-by (breakpointVerdict b p) b p (statusPressed (b .status) (pressed (b .status) (b .debug))) within (λ same. same)

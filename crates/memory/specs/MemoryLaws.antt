@@ -1,22 +1,64 @@
--- Laws of memory: a store keeps the length and the bytes, a fetch is within its size, and what was stored is fetched.
-use Prim.Native.Nat.{ℕ, _+_, _*_, _/_, _%_, _<_, _≤_}
+-- Laws of memory: a store keeps the length and the bytes, a fetch stays within its size, and what was stored is fetched.
+use Prim.Native.Nat.{ℕ, zero, suc, _+_, _*_, _/_, _%_, _<_, _≤_}
+use native.Mathlib.Omega.{arith}
 use mathlib.Core.Path.{_≡_, refl, sym, ap, _∙_}
 use mathlib.Core.Bool.{Bool, true, false, cond}
-use mathlib.Core.List.{List}
+use mathlib.Core.List.{List, [], _∷_}
 use lib.ListN.{length, getD, set, length-set}
+use lib.Seq.{getD-set-same, getD-set-other}
+use borrow.Author.Tests.{leb-true}
 use Rattle.memory.specs.declared.Size.{Size}
 use Rattle.memory.specs.declared.Size.the-variants.{Byte, Word, Long}
-use Rattle.memory.specs.Memory.{bytes, aligned, present, putAt, putWord, stored}
+use Rattle.memory.specs.declared.Fetch.{Fetch}
+use Rattle.memory.specs.declared.Fetch.the-variants.{Value, BusError}
+use Rattle.memory.specs.Memory.{bytes, aligned, present, valueAt, wordAt, fetched, putAt, putWord, stored}
+
+-- every element of a list is below a bound
+abbrev pub AllBelow : ℕ → List ℕ → Type 0
+AllBelow k l = (i : ℕ) → getD l i 0 < k
+
+pub set-keeps-below : (k : ℕ) (l : List ℕ) (j x : ℕ) → AllBelow k l → x < k → AllBelow k (set l j x)
+set-keeps-below k [] j x h f i = h i
+set-keeps-below k (y ∷ ys) zero x h f zero = f
+set-keeps-below k (y ∷ ys) zero x h f (suc i) = h (suc i)
+set-keeps-below k (y ∷ ys) (suc j) x h f zero = h zero
+set-keeps-below k (y ∷ ys) (suc j) x h f (suc i) = set-keeps-below k ys j x (λ n. h (suc n)) f i
+
+put-word-keeps-bytes : (m : List ℕ) (at v : ℕ) → AllBelow 256 m → AllBelow 256 (putWord m at v)
+put-word-keeps-bytes m at v h =
+    set-keeps-below 256 (set m at (v / 256 % 256)) (at + 1) (v % 256) (set-keeps-below 256 m at (v / 256 % 256) h (omega arith)) (omega arith)
+
+put-keeps-bytes : (m : List ℕ) (s : Size) (at v : ℕ) → AllBelow 256 m → AllBelow 256 (putAt m s at v)
+put-keeps-bytes m Byte at v h = set-keeps-below 256 m at (v % 256) h (omega arith)
+put-keeps-bytes m Word at v h = put-word-keeps-bytes m at v h
+put-keeps-bytes m Long at v h = put-word-keeps-bytes (putWord m at (v / 65536)) (at + 2) v (put-word-keeps-bytes m at (v / 65536) h)
 
 put-keeps-length : (m : List ℕ) (s : Size) (at v : ℕ) → length (putAt m s at v) ≡ length m
 put-keeps-length m Byte at v = simp length-set
 put-keeps-length m Word at v = simp length-set
 put-keeps-length m Long at v = simp length-set
 
+-- what holds of both choices holds of the choice
+either : {A : Type 0} (P : A → Type 0) (t : Bool) (x y : A) → (t ≡ true → P x) → (t ≡ false → P y) → P (cond t x y)
+either P true x y f g = f refl
+either P false x y f g = g refl
+
+pub store-keeps-bytes : (m : List ℕ) (s : Size) (a v : ℕ) → AllBelow 256 m → AllBelow 256 (stored m s a v)
+unfolding stored
+store-keeps-bytes m s a v h = either (AllBelow 256) (present m s a) (putAt m s (aligned s a) v) m (λ t. put-keeps-bytes m s (aligned s a) v h) (λ t. h)
+
 pub store-keeps-length : (m : List ℕ) (s : Size) (a v : ℕ) → length (stored m s a v) ≡ length m
 unfolding stored
-store-keeps-length m s a v = by-test (present m s a)
-  where
-    by-test : (t : Bool) → length (cond t (putAt m s (aligned s a) v) m) ≡ length m
-    by-test true = put-keeps-length m s (aligned s a) v
-    by-test false = refl
+store-keeps-length m s a v =
+    either (λ (l : List ℕ). length l ≡ length m) (present m s a) (putAt m s (aligned s a) v) m (λ t. put-keeps-length m s (aligned s a) v) (λ t. refl)
+
+-- one more than the largest value of a size
+abbrev pub limit : Size → ℕ
+limit Byte = 256
+limit Word = 65536
+limit Long = 4294967296
+
+pub value-within : (m : List ℕ) (s : Size) (at : ℕ) → AllBelow 256 m → valueAt m s at < limit s
+value-within m Byte at h = h at
+value-within m Word at h = omega (arith, h at, h (at + 1))
+value-within m Long at h = omega (arith, h at, h (at + 1), h (at + 2), h (at + 2 + 1))

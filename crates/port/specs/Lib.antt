@@ -1,2 +1,10 @@
 pub mod Packets
 pub mod Promise
+pub mod PacketLaws
+pub mod Run
+pub mod RunLaws
+pub mod Sound
+pub mod SoundPlan
+pub mod SoundWork
+pub mod SoundLaws
+pub mod Examples

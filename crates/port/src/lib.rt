@@ -2,6 +2,10 @@
 ghost use mathlib.Core.Path.{_≡_};
 ghost use Rattle.port.specs.Packets.{replyIn, chainDuring, chainIn, rejected, holding, released, placeBy, boardBy, memoryBy, replyNow, placeNext, boardNext, memoryNext, packetVerdict};
 ghost use Rattle.port.specs.Promise.{PacketMeets};
+ghost use Rattle.port.specs.Run.{stateOf, ran, allWithin, runVerdict, RunMeets};
+ghost use Rattle.port.specs.RunLaws.{written};
+ghost use Prim.Native.Nat.{_≤_};
+ghost use lib.ListN.{length};
 use board::Board;
 use board::Chain;
 use board::Phase;
@@ -176,6 +180,96 @@ pub fn take_packet(board: Board, place: Place, memory: &mut [u8], word: u32) -> 
         }
         Verdict::Refused(ground) => Answer {
             outcome: Outcome::Refusing(ground),
+            board: board,
+            place: place,
+        },
+    }
+}
+
+pub struct Ran {
+    pub verdict: Verdict,
+    pub board: Board,
+    pub place: Place,
+}
+
+fn all_within(words: &[u32]) -> bool
+    ensures { λ r. ⌜ r ≡ allWithin (now (words .entry)) ⌝ }
+{
+    let mut i = 0;
+    while i < words.len() {
+        if 0x1FFFF < words[i] {
+            return false;
+        }
+        i += 1;
+    }
+    true
+}
+
+fn judge_run(board: Board, place: Place, memory: &[u8], words: &[u32], room: usize) -> Verdict
+    ensures { λ r. ⌜ r ≡ runVerdict board place (now (memory .entry)) (now (words .entry)) room ⌝ }
+{
+    if board::is_in_range(board, place) {
+        if memory.len() <= 65536 {
+            if all_within(words) {
+                if words.len() <= room {
+                    return Verdict::Accepted;
+                }
+                return Verdict::Refused(Ground::BufferTooShort);
+            }
+            return Verdict::Refused(Ground::WordTooLarge);
+        }
+        return Verdict::Refused(Ground::MemoryTooLong);
+    }
+    Verdict::Refused(Ground::StateOutOfRange)
+}
+
+fn take_words(
+    board: Board,
+    place: Place,
+    memory: &mut [u8],
+    words: &[u32],
+    replies: &mut [u32],
+) -> Next
+    requires { ⌜ length (now words) ≤ length (now replies) ⌝ }
+    ensures { λ r. ⌜ (stateOf (r .board) (r .place) (now (memory .exit)) ≡ ran (now (words .entry)) (stateOf board place (now (memory .entry)))) × (now (replies .exit) ≡ written (now (words .entry)) 0 (stateOf board place (now (memory .entry))) (now (replies .entry))) ⌝ }
+{
+    let mut b = board;
+    let mut p = place;
+    let mut i = 0;
+    while i < words.len() {
+        let word = words[i];
+        replies[i] = reply_of(p);
+        i += 1;
+        let next = take_word(b, p, memory, word);
+        b = next.board;
+        p = next.place;
+    }
+    Next { board: b, place: p }
+}
+
+pub fn take_packets(
+    board: Board,
+    place: Place,
+    memory: &mut [u8],
+    words: &[u32],
+    replies: &mut [u32],
+) -> Ran
+    ensures { λ r. ⌜ RunMeets board place (now (memory .entry)) (now (words .entry)) (now (replies .entry)) r (now (memory .exit)) (now (replies .exit)) ⌝ }
+{
+    let verdict = judge_run(board, place, memory, words, replies.len());
+    match verdict {
+        Verdict::Accepted => {
+            let next = take_words(board, place, memory, words, replies);
+            let board_next = next.board;
+            let place_next = next.place;
+            Ran {
+                verdict: verdict,
+                board: board_next,
+                place: place_next,
+            }
+        }
+        Verdict::Refused(_) => Ran {
+            verdict: verdict,
             board: board,
             place: place,
         },

@@ -11,15 +11,7 @@ use lib.ListN.{length, length-append}
 use Rattle.trace.specs.declared.cycle.Carried.{Carried}
 use Rattle.trace.specs.declared.cycle.Item.{Item}
 use Rattle.trace.specs.Cycle.{pst, givesOwn, carriedInto}
-use Rattle.trace.specs.Items.{valueItem, ownItem, itemsAt, itemsBefore, items, words}
-
--- one where the test holds
-abbrev pub one : Bool → ℕ
-one b = cond b 1 0
-
--- how many items a cycle gives: a value's, and its own
-unfoldable pub countAt : Carried → ℕ → ℕ
-countAt c p = one (eqb (c .due) 1) + one (givesOwn (c .run) p)
+use Rattle.trace.specs.Items.{one, countAt, valueItem, ownItem, itemsAt, itemsBefore, items, words}
 
 one-length : (b : Bool) (x : Item) → length (cond b (x ∷ []) []) ≡ one b
 one-length true x = refl

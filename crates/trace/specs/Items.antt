@@ -1,6 +1,6 @@
 -- Recorded cycles (01): the items of a trace, in their order, and the words of each.
 use Prim.Native.Nat.{ℕ, zero, suc, _+_, _*_}
-use mathlib.Core.Bool.{cond}
+use mathlib.Core.Bool.{Bool, cond}
 use mathlib.Core.List.{List, [], _∷_, _++_}
 use lib.Dec.{eqb}
 use lib.ListN.{length}
@@ -26,6 +26,14 @@ ownItem i run p = cond (givesOwn run p) (ofCycle i p ∷ []) []
 -- "before that cycle's own item": the items of cycle i, which finds c under way and has the PST p
 unfoldable pub itemsAt : List ℕ → ℕ → Carried → ℕ → List Item
 itemsAt trace i c p = valueItem trace i c ++ ownItem i (c .run) p
+
+-- one where the test holds
+abbrev pub one : Bool → ℕ
+one b = cond b 1 0
+
+-- how many items a cycle gives: a value's, and its own
+unfoldable pub countAt : Carried → ℕ → ℕ
+countAt c p = one (eqb (c .due) 1) + one (givesOwn (c .run) p)
 
 -- the items of the cycles before cycle i
 unfoldable pub itemsBefore : List ℕ → ℕ → List Item

@@ -1,8 +1,10 @@
 pub mod Cycle
 pub mod CycleLaws
 pub mod Items
+pub mod MarkerLaws
 pub mod ItemLaws
 pub mod Listing
+pub mod Stores
 pub mod StoreLaws
 pub mod JudgeLaws
 pub mod ListingLaws

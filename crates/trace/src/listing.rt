@@ -1,41 +1,20 @@
 // The listing of a trace into a lent buffer, and the judgement of a trace that precedes it.
 use crate::cycle;
 use crate::cycle::Carried;
+use grounds::Ground;
 ghost use mathlib.Core.Path.{_≡_};
-ghost use Prim.Native.Nat.{_+_, _*_, _≤_, _<_};
+ghost use Prim.Native.Nat.{_+_, _≤_, _<_};
 ghost use mathlib.Core.List.{[], _∷_};
 ghost use lib.ListN.{length};
 ghost use lib.Seq.{sets};
-ghost use Rattle.trace.specs.Cycle.{pst};
-ghost use Rattle.trace.specs.Items.{valueItem, ownItem, itemsAt, items, words};
-ghost use Rattle.trace.specs.ItemLaws.{countAt};
-ghost use Rattle.trace.specs.Listing.{number, told, reading, ListingMeets};
-
-// Why a trace, or a buffer for its items, is refused.
-pub enum Ground {
-    TraceTooLong,
-    ReservedPst,
-    MarkerTooSoon,
-    EndsInTransfer,
-    BufferTooShort,
-}
+ghost use Rattle.trace.specs.Items.{valueItem, ownItem, itemsAt, countAt, items, words};
+ghost use Rattle.trace.specs.Stores.{Stored};
+ghost use Rattle.trace.specs.Listing.{told, reading, ListingMeets};
 
 // How many items a trace has, or why it is refused and at which cycle (0 where the ground has none).
 pub enum Listing {
     Items(usize),
     Refused { ground: Ground, cycle: usize },
-}
-
-pub fn ground_number(ground: Ground) -> u32
-    ensures { λ r. ⌜ r ≡ number ground ⌝ }
-{
-    match ground {
-        Ground::TraceTooLong => 7,
-        Ground::ReservedPst => 8,
-        Ground::MarkerTooSoon => 9,
-        Ground::EndsInTransfer => 10,
-        Ground::BufferTooShort => 11,
-    }
 }
 
 // How many items a cycle gives.
@@ -87,7 +66,7 @@ pub fn judge_trace(trace: &[u8]) -> Listing
         return Listing::Items(items);
     }
     Listing::Refused {
-        ground: Ground::EndsInTransfer,
+        ground: Ground::TraceCutShort,
         cycle: 0,
     }
 }
@@ -95,7 +74,7 @@ pub fn judge_trace(trace: &[u8]) -> Listing
 // An item's two words at a place of the buffer; the place after them.
 fn put_item(out: &mut [u32], at: usize, item: cycle::Item) -> usize
     requires { ⌜ (item .cycle < 65536) × (at + 2 ≤ length (now out)) ⌝ }
-    ensures { λ r. ⌜ (r ≡ at + 2) × (now (out .exit) ≡ sets (now (out .entry)) at (words (item ∷ []))) ⌝ }
+    ensures { λ r. ⌜ Stored (words (item ∷ [])) at (now (out .entry)) r (now (out .exit)) ⌝ }
 {
     out[at] = (item.cycle * 16 + item.code as usize) as u32;
     out[at + 1] = item.value;
@@ -104,8 +83,7 @@ fn put_item(out: &mut [u32], at: usize, item: cycle::Item) -> usize
 
 fn put_value(trace: &[u8], out: &mut [u32], at: usize, i: usize, carried: Carried) -> usize
     requires { ⌜ (i < 65536) × (at + length (words (valueItem (now trace) i carried)) ≤ length (now out)) ⌝ }
-    ensures { λ r. ⌜ (r ≡ at + length (words (valueItem (now (trace .entry)) i carried)))
-        × (now (out .exit) ≡ sets (now (out .entry)) at (words (valueItem (now (trace .entry)) i carried))) ⌝ }
+    ensures { λ r. ⌜ Stored (words (valueItem (now (trace .entry)) i carried)) at (now (out .entry)) r (now (out .exit)) ⌝ }
 {
     if carried.due == 1 {
         let value = cycle::read_value(trace, i, carried.marker);
@@ -121,8 +99,7 @@ fn put_value(trace: &[u8], out: &mut [u32], at: usize, i: usize, carried: Carrie
 
 fn put_own(out: &mut [u32], at: usize, i: usize, run: u8, pst: u8) -> usize
     requires { ⌜ (i < 65536) × (at + length (words (ownItem i run pst)) ≤ length (now out)) ⌝ }
-    ensures { λ r. ⌜ (r ≡ at + length (words (ownItem i run pst)))
-        × (now (out .exit) ≡ sets (now (out .entry)) at (words (ownItem i run pst))) ⌝ }
+    ensures { λ r. ⌜ Stored (words (ownItem i run pst)) at (now (out .entry)) r (now (out .exit)) ⌝ }
 {
     if cycle::gives_own(run, pst) {
         let item = cycle::Item {
@@ -138,8 +115,7 @@ fn put_own(out: &mut [u32], at: usize, i: usize, run: u8, pst: u8) -> usize
 // The items of one cycle.
 fn put_cycle(trace: &[u8], out: &mut [u32], at: usize, i: usize, carried: Carried, pst: u8) -> usize
     requires { ⌜ (i < 65536) × (at + length (words (itemsAt (now trace) i carried pst)) ≤ length (now out)) ⌝ }
-    ensures { λ r. ⌜ (r ≡ at + length (words (itemsAt (now (trace .entry)) i carried pst)))
-        × (now (out .exit) ≡ sets (now (out .entry)) at (words (itemsAt (now (trace .entry)) i carried pst))) ⌝ }
+    ensures { λ r. ⌜ Stored (words (itemsAt (now (trace .entry)) i carried pst)) at (now (out .entry)) r (now (out .exit)) ⌝ }
 {
     let next = put_value(trace, out, at, i, carried);
     put_own(out, next, i, carried.run, pst)

@@ -3,3 +3,4 @@ pub mod MaskLaws
 pub mod Lanes
 pub mod Levels
 pub mod Groups
+pub mod ComparatorLaws

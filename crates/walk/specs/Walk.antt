@@ -5,6 +5,8 @@ use mathlib.Core.Bool.{Bool, true, false, cond}
 use mathlib.Core.List.{List, [], _∷_}
 use lib.Dec.{eqb}
 use lib.ListN.{length}
+use denote.Ref.{RefT, now}
+use Rattle.grounds.specs.Grounds.{number}
 use Rattle.trace.specs.declared.cycle.Carried.{Carried}
 use Rattle.trace.specs.declared.cycle.Item.{Item}
 use Rattle.trace.specs.declared.listing.Listing.{Listing}
@@ -12,11 +14,13 @@ use Rattle.trace.specs.declared.listing.Listing.the-variants.{Items, Refused}
 use Rattle.trace.specs.Cycle.{pst, givesOwn, nothing, after}
 use Rattle.trace.specs.Items.{ofValue, ofCycle}
 use Rattle.trace.specs.Listing as told
-use Rattle.trace.specs.Listing.{number, Told, told, reading}
+use Rattle.trace.specs.Listing.{Told, told, reading}
 use Rattle.walk.specs.declared.Place.{Place}
 use Rattle.walk.specs.declared.Handed.{Handed}
 use Rattle.walk.specs.declared.Handed.the-variants.{Item as oneItem, End as atEnd, Refused as asRefused}
 use Rattle.walk.specs.declared.Step.{Step}
+use Rattle.walk.specs.declared.Walk.{Walk}
+use Rattle.walk.specs.declared.Stepped.{Stepped}
 
 abbrev pub placed : Listing → ℕ → Carried → Bool → Place
 placed start i c past = record { start = start; cycle = i; carried = c; past = past }
@@ -67,3 +71,21 @@ abbrev pub firstOf : Told → List Item → ToldStep
 firstOf (told.refusal number cycle) xs = refusal number cycle
 firstOf (told.counted n) [] = end
 firstOf (told.counted n) (x ∷ xs) = item (x .cycle) (x .code) (x .value)
+
+-- what so many steps hand out, in their order
+unfoldable pub handings : ℕ → List ℕ → Place → List Handed
+handings zero trace place = []
+handings (suc k) trace place = stepOf trace place .handed ∷ handings k trace (stepOf trace place .place)
+
+-- "a walk that borrows the trace and remembers its place": the struct of the two
+abbrev pub walkAt : RefT (List ℕ) → Place → Walk
+walkAt trace place = record { trace = trace; place = place }
+
+-- a walk starts on the trace it is given, at that trace's start
+pub record WalkStarts (trace : RefT (List ℕ)) (walk : Walk) : Type 0 where
+  pub borrowed : walk ≡ walkAt trace (walk .place)
+  pub started : StartMeets (now trace) (walk .place)
+
+-- the walk on the same trace at the step's place, and what the step hands out
+abbrev pub steppedOf : Walk → Stepped
+steppedOf walk = record { walk = walkAt (walk .trace) (stepOf (now (walk .trace)) (walk .place) .place); handed = stepOf (now (walk .trace)) (walk .place) .handed }

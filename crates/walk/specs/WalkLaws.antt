@@ -6,27 +6,26 @@ use mathlib.Core.List.{List, [], _∷_, _++_, map}
 use native.Mathlib.Nat.{zero-add, suc-add, sub-zero}
 use native.Mathlib.Omega.{arith}
 use lib.ListN.{length, replicate}
+use denote.Ref.{RefT, now}
+use Rattle.grounds.specs.declared.Ground.{Ground}
+use Rattle.grounds.specs.Grounds.{number}
+use Rattle.grounds.specs.GroundLaws.{same-number-same-ground}
 use Rattle.trace.specs.declared.cycle.Item.{Item}
-use Rattle.trace.specs.declared.listing.Ground.{Ground}
 use Rattle.trace.specs.declared.listing.Listing.{Listing}
 use Rattle.trace.specs.declared.listing.Listing.the-variants.{Items, Refused}
 use Rattle.trace.specs.Cycle.{nothing, carriedInto}
 use Rattle.trace.specs.Items.{itemsBefore, items}
-use Rattle.trace.specs.Listing.{number, Told, refusal, counted, told, reading}
+use Rattle.trace.specs.Listing.{Told, refusal, counted, told, reading}
 use Rattle.trace.specs.JudgeLaws.{read-so}
 use Rattle.trace.specs.ListingLaws.{told-one}
 use Rattle.walk.specs.declared.Place.{Place}
+use Rattle.walk.specs.declared.Walk.{Walk}
 use Rattle.walk.specs.declared.Handed.{Handed}
 use Rattle.walk.specs.declared.Handed.the-variants.{Item as oneItem, End as atEnd, Refused as asRefused}
 use Rattle.walk.specs.Walk as walk
-use Rattle.walk.specs.Walk.{placed, StartMeets, stepOf, ToldStep, toldStep, firstOf}
+use Rattle.walk.specs.Walk.{placed, StartMeets, stepOf, ToldStep, toldStep, firstOf, handings, walkAt, WalkStarts, steppedOf}
 use Rattle.walk.specs.StepLaws.{step-refused}
 use Rattle.walk.specs.RestLaws.{itemsFrom, rest, items-from, Unrolls, step-unrolls}
-
--- what so many steps hand out, in their order
-unfoldable pub handings : ℕ → List ℕ → Place → List Handed
-handings zero trace place = []
-handings (suc k) trace place = stepOf trace place .handed ∷ handings k trace (stepOf trace place .place)
 
 -- from a place with no items on, the end is handed out for ever
 ends-handed : (trace : List ℕ) (n m : ℕ) (place : Place) → place .start ≡ Items n → rest trace place ≡ [] → handings m trace place ≡ replicate m atEnd
@@ -120,3 +119,30 @@ first-handed trace place s = by-reading (reading trace) refl
     by-reading : (t : Told) → reading trace ≡ t → toldStep (stepOf trace place .handed) ≡ firstOf t (items trace)
     by-reading (refusal k i) e = let r = walk-refused trace place k i 1 s e in cc
     by-reading (counted n) e = by-item n (items trace) (start-rest trace place s) (stepOf trace place .place) (stepOf trace place .handed) (step-unrolls trace place n (start-read trace place n s e) .0)
+
+-- two handings of the same number and values are one
+pub told-step-one : (r s : Handed) → toldStep r ≡ toldStep s → r ≡ s
+told-step-one (oneItem x) (oneItem y) e =
+    let i : x .cycle ≡ y .cycle = cc in
+    let c : x .code ≡ y .code = cc in
+    let v : x .value ≡ y .value = cc in
+    rw (i, c, v)
+told-step-one (asRefused g i) (asRefused h j) e =
+    let same : g ≡ h = same-number-same-ground g h (cc) in
+    let cycle : i ≡ j = cc in
+    cc
+told-step-one atEnd atEnd e = refl
+told-step-one (oneItem x) atEnd e = let z : _≡_ {A = ℕ} 0 1 = cc in absurd (omega arith)
+told-step-one (oneItem x) (asRefused h j) e = let z : _≡_ {A = ℕ} 0 1 = cc in absurd (omega arith)
+told-step-one atEnd (oneItem y) e = let z : _≡_ {A = ℕ} 0 1 = cc in absurd (omega arith)
+told-step-one atEnd (asRefused h j) e = let z : _≡_ {A = ℕ} 0 1 = cc in absurd (omega arith)
+told-step-one (asRefused g i) (oneItem y) e = let z : _≡_ {A = ℕ} 0 1 = cc in absurd (omega arith)
+told-step-one (asRefused g i) atEnd e = let z : _≡_ {A = ℕ} 0 1 = cc in absurd (omega arith)
+
+-- the same of the struct that borrows the trace
+pub walk-one : (trace : RefT (List ℕ)) (v w : Walk) → WalkStarts trace v → WalkStarts trace w → v ≡ w
+walk-one trace v w s t =
+    s .borrowed ∙ ap (λ (p : Place). walkAt trace p) (start-one (now trace) (v .place) (w .place) (s .started) (t .started)) ∙ sym (t .borrowed)
+
+pub walk-first : (trace : RefT (List ℕ)) (w : Walk) → WalkStarts trace w → toldStep (steppedOf w .handed) ≡ firstOf (reading (now trace)) (items (now trace))
+walk-first trace w s = ap (λ (v : Walk). toldStep (steppedOf v .handed)) (s .borrowed) ∙ first-handed (now trace) (w .place) (s .started)

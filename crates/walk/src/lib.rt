@@ -1,9 +1,9 @@
 // A walk that borrows the trace and remembers its place, one item a step.
+use grounds::Ground;
 use trace::cycle;
 use trace::cycle::Carried;
 use trace::cycle::Item;
 use trace::listing;
-use trace::listing::Ground;
 use trace::listing::Listing;
 ghost use mathlib.Core.Path.{_≡_};
 ghost use Prim.Native.Nat.{_+_, _-_, _<_};
@@ -11,8 +11,7 @@ ghost use mathlib.Core.Bool.{true, false};
 ghost use lib.ListN.{length};
 ghost use Rattle.trace.specs.Items.{ofValue, ofCycle, items};
 ghost use Rattle.trace.specs.Listing.{reading};
-ghost use Rattle.walk.specs.Walk.{placed, valueNext, handing, stepFrom, stepOf, StartMeets, toldStep, firstOf};
-ghost use Rattle.walk.specs.Held.{WalkStarts, steppedOf};
+ghost use Rattle.walk.specs.Walk.{placed, valueNext, handing, stepFrom, stepOf, StartMeets, toldStep, firstOf, WalkStarts, steppedOf};
 
 // Where a walk stands: how its start was judged, the next cycle and what it finds under way, and
 // whether that cycle's value is past.

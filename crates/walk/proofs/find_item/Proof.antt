@@ -25,7 +25,8 @@ hand-value-requires c κs = tt
 
 returns : tie.Need-returns Inv-loop μ-loop
 returns c = let w = c .before .before .before .before .loop in
-    c .hand-value .ensures ∙ sym (step-value _ _ (w .i) (w .carried) (w .past) (search needs) (sym (c .before .before .is-value-next .ensures) ∙ c .before .if1 .taken)) ∙ w .inv
+    let a = c .before .before .before .before .before .before .before .args in
+    cc (c .hand-value .ensures, step-value (a .trace .now) (a .place .start) (w .i) (w .carried) (w .past) (search needs) (sym (c .before .before .is-value-next .ensures) ∙ c .before .if1 .taken), w .inv)
 
 shared-slice-read-pst : tie.Need-shared-slice-read-pst Inv-loop μ-loop
 shared-slice-read-pst c = search needs
@@ -41,9 +42,10 @@ hand-own-requires c κs = search needs
 
 returns-2 : tie.Need-returns-2 Inv-loop μ-loop
 returns-2 c = let w = c .before .before .before .before .before .before .before .before .loop in
+    let a = c .before .before .before .before .before .before .before .before .before .before .before .args in
     let v = sym (c .before .before .before .before .before .before .is-value-next .ensures) ∙ c .before .before .before .before .before .if1 .left in
     let o = sym (c .before .before .gives-own .ensures) ∙ c .before .if2 .taken in
-    rw (c .before .before .before .after-cycle .ensures) at (c .hand-own .ensures) ∙ sym (step-own _ _ (w .i) (w .carried) (w .past) (search needs) v o) ∙ w .inv
+    cc (c .before .before .before .after-cycle .ensures, c .hand-own .ensures, step-own (a .trace .now) (a .place .start) (w .i) (w .carried) (w .past) (search needs) v o, w .inv)
 
 add-i : tie.Need-add-i Inv-loop μ-loop
 add-i c = search needs

@@ -42,8 +42,8 @@ use denote.Triple.Clauses.{ensured, lasts}
 use Rattle.trace.specs.Items.{items}
 use Rattle.trace.specs.Listing.{reading}
 use Rattle.walk.specs.Walk.{toldStep, firstOf}
-use Rattle.walk.specs.Held.{WalkStarts, steppedOf}
-use Rattle.walk.specs.HeldLaws.{walk-first}
+use Rattle.walk.specs.Walk.{WalkStarts, steppedOf}
+use Rattle.walk.specs.WalkLaws.{walk-first}
 use Rattle.walk.specs.declared.Walk.{Walk}
 use Rattle.walk.specs.declared.Stepped.{Stepped}
 use Rattle.walk.specs.declared.Handed.{Handed}

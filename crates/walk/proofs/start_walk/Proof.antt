@@ -39,7 +39,7 @@ use denote.Triple.Walked.{says, Stays, stay-none-slice, walkOf, goes-none-slice,
 use denote.Exit.{yes}
 use denote.Triple.Clauses.{ensured, lasts}
 use Rattle.walk.specs.Walk.{StartMeets}
-use Rattle.walk.specs.Held.{walkAt, WalkStarts}
+use Rattle.walk.specs.Walk.{walkAt, WalkStarts}
 use Rattle.walk.specs.declared.Walk.{Walk}
 use Rattle.walk.specs.declared.Place.{Place}
 use Rattle.walk.proofs.Walk as T

@@ -41,7 +41,7 @@ use denote.Triple.Walked.{says, Stays, stay-none, walkOf, goes-none, Walks, ends
 use denote.Exit.{yes}
 use denote.Triple.Clauses.{ensured, lasts}
 use Rattle.walk.specs.Walk.{stepOf}
-use Rattle.walk.specs.Held.{walkAt}
+use Rattle.walk.specs.Walk.{walkAt}
 use Rattle.walk.specs.declared.Walk.{Walk}
 use Rattle.walk.specs.declared.Step.{Step}
 use Rattle.walk.specs.declared.Stepped.{Stepped}

@@ -1,6 +1,6 @@
 use borrow.Author.Tests.{eq-eqb, ne-eqb}
 use mathlib.Core.Path.{sym, _∙_}
-use Rattle.trace.specs.ItemLaws.{countAt}
+use Rattle.trace.specs.Items.{countAt}
 use borrow.Author.Needs.{needs}
 use Rattle.trace.proofs.listing.count_items.Statement.{statement}
 use Rattle.trace.proofs.listing.count_items.Tie as tie

@@ -22,7 +22,7 @@ abbrev μ-loop : tie.MeasureT-loop
 
 returns : tie.Need-returns Inv-loop μ-loop
 unfolding reading judged tooLong
-returns c = rw (lt-ltb _ _ (c .if1 .taken))
+returns c = rw (lt-ltb 65536 (length (c .before .before .args .trace .now)) (omega arith))
 
 nothing-carried-requires : tie.Need-nothing-carried-requires Inv-loop μ-loop
 nothing-carried-requires c κs = tt

@@ -22,7 +22,7 @@ put-own-requires c κs = let a = c .before .before .before .before .before .befo
     let B = words (ownItem (a .i) (a .carried .run) (a .pst)) in
     let e = words-at (a .trace .now) (a .i) (a .carried) (a .pst) in
     let p = c .before .before .before .put-value .ensures in
-    (search needs, omega (arith, p .0, length-stored (a .out .now) A (a .at) (p .1), ap length e, length-append A B))
+    (search needs, omega (arith, p .place, length-stored (a .out .now) A (a .at) (p .stored), ap length e, length-append A B))
 
 same-length : tie.Need-same-length
 same-length c = search needs
@@ -34,7 +34,7 @@ returns c = let a = c .before .before .before .before .before .before .before .b
     let e = words-at (a .trace .now) (a .i) (a .carried) (a .pst) in
     let p = c .before .before .before .before .before .before .put-value .ensures in
     let q = c .before .before .put-own .ensures in
-    (omega (arith, p .0, q .0, ap length e, length-append A B), rw e (cc (p .0, p .1, q .1, sets-append A B (a .out .now) (a .at))))
+    record { place = omega (arith, p .place, q .place, ap length e, length-append A B); stored = rw e (cc (p .place, p .stored, q .stored, sets-append A B (a .out .now) (a .at))) }
 
 pub put-cycle-spec : {M : Type 1} → statement M
 put-cycle-spec = tie.close (tie.spec put-value-requires put-own-requires same-length returns)

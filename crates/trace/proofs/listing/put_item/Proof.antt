@@ -39,7 +39,7 @@ same-length : tie.Need-same-length
 same-length c = search needs
 
 returns : tie.Need-returns
-returns c = (search needs, simp add-one)
+returns c = record { place = search needs; stored = simp add-one }
 
 pub put-item-spec : {M : Type 1} → statement M
 put-item-spec =

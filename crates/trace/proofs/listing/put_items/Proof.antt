@@ -55,7 +55,7 @@ loop-again c = let a = c .before .before .before .before .before .before .before
     let W = words (itemsAt trace (w .i) (w .carried) (pst trace (w .i))) in
     let e = words-next trace (w .i) (w .carried) (w .inv .1) in
     let p = c .before .before .before .put-cycle .ensures in
-    (search needs, c .after-cycle .ensures ∙ carried-next _ (w .i) (w .carried) (w .inv .1), omega (arith, p .0, w .inv .2, ap length e, length-append B W), omega (arith, length-stored (w .out) W (w .at) (p .1)), rw e (cc (p .1, w .inv .2, w .inv .4, sets-append B W (a .out .now) 0, zero-add (length B))))
+    (search needs, c .after-cycle .ensures ∙ carried-next _ (w .i) (w .carried) (w .inv .1), omega (arith, p .place, w .inv .2, ap length e, length-append B W), omega (arith, length-stored (w .out) W (w .at) (p .stored)), rw e (cc (p .stored, w .inv .2, w .inv .4, sets-append B W (a .out .now) 0, zero-add (length B))))
 
 same-length : tie.Need-same-length Inv-loop μ-loop
 same-length c = c .before .loop .inv .3

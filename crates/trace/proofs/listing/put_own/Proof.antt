@@ -17,7 +17,7 @@ returns : tie.Need-returns
 returns c = let p = c .before .before .put-item .ensures in rw (sym (c .before .before .before .before .before .gives-own .ensures) ∙ c .before .before .before .before .if1 .taken) p
 
 returns-2 : tie.Need-returns-2
-returns-2 c = rw (sym (c .before .gives-own .ensures) ∙ c .if1 .left) (sym (add-zero _), refl)
+returns-2 c = rw (sym (c .before .gives-own .ensures) ∙ c .if1 .left) (record { place = sym (add-zero _); stored = refl })
 
 pub put-own-spec : {M : Type 1} → statement M
 put-own-spec =

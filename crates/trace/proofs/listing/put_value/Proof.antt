@@ -18,7 +18,7 @@ returns : tie.Need-returns
 returns c = let p = c .before .before .put-item .ensures in rw (eq-eqb _ _ (c .before .before .before .before .before .if1 .taken), ← c .before .before .before .before .read-value .ensures) p
 
 returns-2 : tie.Need-returns-2
-returns-2 c = rw (ne-eqb _ _ (c .if1 .left)) (sym (add-zero _), refl)
+returns-2 c = rw (ne-eqb _ _ (c .if1 .left)) (record { place = sym (add-zero _); stored = refl })
 
 pub put-value-spec : {M : Type 1} → statement M
 put-value-spec =

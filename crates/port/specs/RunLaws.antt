@@ -1,0 +1,83 @@
+-- Laws of a run: how its loop goes on, and where its replies stand.
+use Prim.Native.Nat.{ℕ, suc, _+_, _≤_, _<_}
+use mathlib.Core.Path.{_≡_, refl, sym, ap, _∙_}
+use mathlib.Core.Bool.{Bool, true, false, _&&_}
+use mathlib.Core.List.{List, [], _∷_, _++_, append-assoc}
+use native.Mathlib.Numerals.{add-one}
+use native.Mathlib.Omega.{arith}
+use lib.Dec.{leb}
+use lib.ListN.{length, getD, set, take, drop, length-set, drop-of-length-le, take-append-drop}
+use lib.Seq.{drop-cons, take-suc-set, drop-set-lt}
+use Rattle.board.specs.declared.Board.{Board}
+use Rattle.board.specs.declared.Place.{Place}
+use Rattle.port.specs.Packets.{replyNow, boardNext, placeNext, memoryNext}
+use Rattle.port.specs.Run.{State, stateOf, stepped, ran, replies, allWithin, runVerdict}
+use Rattle.grounds.specs.declared.Ground.the-variants.{WordTooLarge, MemoryTooLong, BufferTooShort, StateOutOfRange}
+use Rattle.grounds.specs.declared.Verdict.the-variants.{Accepted}
+use Rattle.grounds.specs.Grounds.{check, judge}
+use Rattle.board.specs.Ranges.{inRange}
+use borrow.Author.Tests.{leb-true}
+
+-- the replies put one after the other from a place on
+unfoldable pub written : List ℕ → ℕ → State → List ℕ → List ℕ
+written [] i s out = out
+written (word ∷ words) i s out = written words (i + 1) (stepped s word) (set out i (replyNow (s .place)))
+
+-- the step, from what it leaves of each part
+pub stepped-by : (b : Board) (p : Place) (m : List ℕ) (word : ℕ) {b′ : Board} {p′ : Place} {m′ : List ℕ}
+    → b′ ≡ boardNext b p word → p′ ≡ placeNext b p m word → m′ ≡ memoryNext b p m word → stateOf b′ p′ m′ ≡ stepped (stateOf b p m) word
+unfolding stepped
+stepped-by b p m word f g h = rw (f, g, h)
+
+-- one word more: of the run, of its replies, of the words judged
+pub ran-on : (words : List ℕ) (i : ℕ) (s : State) → i < length words → ran (drop i words) s ≡ ran (drop (i + 1) words) (stepped s (getD words i 0))
+unfolding ran
+ran-on words i s h = rw (add-one i, drop-cons words i 0 h)
+
+pub written-on : (words : List ℕ) (i : ℕ) (s : State) (out : List ℕ) → i < length words
+    → written (drop i words) i s out ≡ written (drop (i + 1) words) (i + 1) (stepped s (getD words i 0)) (set out i (replyNow (s .place)))
+unfolding written
+written-on words i s out h = rw (drop-cons words i 0 h, ← add-one i)
+
+pub within-on : (words : List ℕ) (i : ℕ) → i < length words → allWithin (drop i words) ≡ (leb (getD words i 0) 0x1FFFF && allWithin (drop (i + 1) words))
+unfolding allWithin
+within-on words i h = rw (add-one i, drop-cons words i 0 h)
+
+-- the words are done
+pub ran-out : (words : List ℕ) (i : ℕ) (s : State) → length words ≤ i → ran (drop i words) s ≡ s
+unfolding ran
+ran-out words i s h = rw (drop-of-length-le words h)
+
+pub written-out : (words : List ℕ) (i j : ℕ) (s : State) (out : List ℕ) → length words ≤ i → written (drop i words) j s out ≡ out
+unfolding written
+written-out words i j s out h = rw (drop-of-length-le words h)
+
+pub within-out : (words : List ℕ) (i : ℕ) → length words ≤ i → allWithin (drop i words) ≡ true
+unfolding allWithin
+within-out words i h = rw (drop-of-length-le words h)
+
+-- the replies stand at the front, one for each word, and what was beyond them stays
+pub written-from : (words : List ℕ) (i : ℕ) (s : State) (out : List ℕ) → i + length words ≤ length out
+    → written words i s out ≡ take i out ++ (replies words s ++ drop (i + length words) out)
+unfolding written replies
+written-from [] i s out h = let none : i + 0 ≡ i = omega arith in rw none (sym (take-append-drop i out))
+written-from (word ∷ words) i s out h =
+    let room : i < length out = omega arith in
+    let beyond : suc i + length words ≡ i + suc (length words) = omega arith in
+    written-from words (i + 1) (stepped s word) (set out i (replyNow (s .place))) (simp length-set (omega arith))
+    ∙ rw (add-one i, take-suc-set out i (replyNow (s .place)) room, drop-set-lt (suc i + length words) out i (replyNow (s .place)) (omega arith), append-assoc, beyond)
+
+pub written-whole : (words : List ℕ) (s : State) (out : List ℕ) → length words ≤ length out → written words 0 s out ≡ replies words s ++ drop (length words) out
+written-whole words s out h = let all : 0 + length words ≡ length words = omega arith in rw all at (written-from words 0 s out (omega arith))
+
+-- a run that is accepted has room for its replies
+pub accepted-has-room : (b : Board) (p : Place) (m words : List ℕ) (room : ℕ) → runVerdict b p m words room ≡ Accepted → length words ≤ room
+unfolding runVerdict
+accepted-has-room b p m words room e = leb-true _ _ (last (inRange b p) (leb (length m) 65536) (allWithin words) (leb (length words) room) e)
+  where
+    last : (t u v w : Bool) → judge (check t StateOutOfRange ∷ check u MemoryTooLong ∷ check v WordTooLarge ∷ check w BufferTooShort ∷ []) ≡ Accepted → w ≡ true
+    last true true true true e = refl
+    last true true true false e = cc
+    last true true false w e = cc
+    last true false v w e = cc
+    last false u v w e = cc

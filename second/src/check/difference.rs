@@ -1,0 +1,111 @@
+//! Where two outputs part, and the input line that caused it.
+
+use super::run::{run, Run};
+use crate::desk::output_of;
+use crate::script::to_bytes;
+use std::fmt;
+use std::path::Path;
+
+/// The first difference between the expected output and that of a program under test.
+#[derive(Debug)]
+pub enum Difference {
+    Line {
+        /// The input line that caused it, counted from 1, if there is one.
+        cause: Option<(usize, Vec<u8>)>,
+        /// The answer's number, counted from 1.
+        answer: usize,
+        expected: Option<Vec<u8>>,
+        actual: Option<Vec<u8>>,
+        /// How the program ended, if that is worth a word.
+        note: String,
+    },
+    Failed(String),
+}
+
+/// Runs a program under test on an input and compares its output with the expected one.
+pub fn try_expected(name: &str, program: &Path, input: &[u8], expected: &[u8]) -> Option<Difference> {
+    match run(program, input) {
+        Ok(run) => first_difference(name, input, expected, run),
+        Err(message) => Some(Difference::Failed(message)),
+    }
+}
+
+/// As `try_expected`, with what this program prints.
+pub fn try_input(name: &str, program: &Path, input: &[u8]) -> Option<Difference> {
+    let expected = output_of(name, input).expect("a program's name");
+    try_expected(name, program, input, &expected)
+}
+
+/// As `try_input`, for the lines of a script.
+pub fn try_lines(name: &str, program: &Path, lines: &[Vec<u8>], last_ended: bool) -> Option<Difference> {
+    try_input(name, program, &to_bytes(lines, last_ended))
+}
+
+fn first_difference(name: &str, input: &[u8], expected: &[u8], run: Run) -> Option<Difference> {
+    if expected == run.output {
+        return None;
+    }
+    let mut expected_lines = expected.split_inclusive(|&byte| byte == b'\n');
+    let mut actual_lines = run.output.split_inclusive(|&byte| byte == b'\n');
+    let mut answer = 0;
+    loop {
+        answer += 1;
+        let (expected, actual) = (expected_lines.next(), actual_lines.next());
+        if expected != actual {
+            return Some(Difference::Line {
+                cause: if name == "trace_list" { None } else { cause(input, answer) },
+                answer,
+                expected: expected.map(<[u8]>::to_vec),
+                actual: actual.map(<[u8]>::to_vec),
+                note: run.note,
+            });
+        }
+    }
+}
+
+/// The input line that gets this answer: empty lines and comments get none.
+fn cause(input: &[u8], answer: usize) -> Option<(usize, Vec<u8>)> {
+    input
+        .split(|&byte| byte == b'\n')
+        .enumerate()
+        .filter(|(_, line)| !line.is_empty() && line[0] != b'#')
+        .nth(answer - 1)
+        .map(|(place, line)| (place + 1, line.to_vec()))
+}
+
+impl fmt::Display for Difference {
+    fn fmt(&self, f: &mut fmt::Formatter<'_>) -> fmt::Result {
+        match self {
+            Difference::Failed(message) => write!(f, "  {message}"),
+            Difference::Line { cause, answer, expected, actual, note } => {
+                match cause {
+                    Some((number, line)) => writeln!(f, "  line {number}:   {}", shown(Some(line)))?,
+                    None => writeln!(f, "  output line {answer}")?,
+                }
+                writeln!(f, "  expected: {}", shown(expected.as_deref()))?;
+                write!(f, "  actual:   {}", shown(actual.as_deref()))?;
+                if !note.is_empty() {
+                    write!(f, "\n  {note}")?;
+                }
+                Ok(())
+            }
+        }
+    }
+}
+
+/// A line in print, cut if it is very long.
+pub fn shown(line: Option<&[u8]>) -> String {
+    const SHOWN: usize = 1000;
+    match line {
+        None => "(nothing)".to_string(),
+        Some(line) => {
+            let body = line.strip_suffix(b"\n").unwrap_or(line);
+            let text = body[..body.len().min(SHOWN)].escape_ascii().to_string();
+            if body.len() > SHOWN {
+                format!("{text}.. ({} bytes)", body.len())
+            } else {
+                text
+            }
+        }
+    }
+}

@@ -1,0 +1,53 @@
+//! The comparison of other programs with this one, byte for byte.
+
+mod compare;
+mod difference;
+mod expect;
+mod rounds;
+mod run;
+mod shrink;
+mod soak;
+
+pub use compare::compare;
+pub use difference::Difference;
+pub use expect::{expect, scripts_of};
+pub use rounds::random;
+pub use shrink::shrink;
+pub use soak::soak;
+
+use std::path::{Path, PathBuf};
+
+/// The programs under test, by name.
+pub const PROGRAMS: [&str; 4] = ["stand_in", "pod", "talk", "trace_list"];
+
+/// The programs under test that are there, and the names of those that are missing.
+pub struct Found {
+    pub present: Vec<(&'static str, PathBuf)>,
+    pub missing: Vec<&'static str>,
+}
+
+impl Found {
+    pub fn within(directory: &Path) -> Found {
+        let mut found = Found { present: Vec::new(), missing: Vec::new() };
+        for name in PROGRAMS {
+            let path = directory.join(name);
+            if path.is_file() {
+                found.present.push((name, path));
+            } else {
+                found.missing.push(name);
+            }
+        }
+        found
+    }
+
+    /// Says which are missing; true if that is no failure.
+    pub fn report(&self, all: bool) -> bool {
+        for name in &self.missing {
+            println!("missing {name}");
+        }
+        if self.present.is_empty() {
+            println!("nothing to compare");
+        }
+        !self.present.is_empty() && (self.missing.is_empty() || !all)
+    }
+}

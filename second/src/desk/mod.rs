@@ -1,0 +1,77 @@
+//! The desk's programs and their lines (desk-language.md).
+
+mod bench;
+mod pod;
+mod stand_in;
+mod talk;
+mod trace_list;
+
+pub use bench::Bench;
+pub use pod::{parse_request, Pod};
+pub use stand_in::StandIn;
+pub use talk::Talk;
+pub use trace_list::trace_list;
+
+use crate::line::LINE_LIMIT;
+use std::io::{self, BufRead, Write};
+
+/// The answer to a line that is none of the language.
+pub const UNCLEAR: &str = "unclear";
+
+/// A program that answers lines.
+pub trait Program {
+    /// The answer to a line parted at its single spaces; none if the line is unclear, and then nothing has changed.
+    fn answer_words(&mut self, words: &[&[u8]]) -> Option<String>;
+
+    /// The answer to a line without its line end; none for an empty line and a comment.
+    fn answer(&mut self, line: &[u8]) -> Option<String> {
+        if line.is_empty() || line[0] == b'#' {
+            return None;
+        }
+        let answer = if line.len() > LINE_LIMIT {
+            None
+        } else {
+            let words: Vec<&[u8]> = line.split(|&byte| byte == b' ').collect();
+            self.answer_words(&words)
+        };
+        Some(answer.unwrap_or_else(|| UNCLEAR.to_string()))
+    }
+}
+
+/// The line programs by name.
+pub const LINE_PROGRAMS: [&str; 3] = ["stand_in", "pod", "talk"];
+
+/// A fresh line program.
+pub fn line_program(name: &str) -> Option<Box<dyn Program>> {
+    Some(match name {
+        "stand_in" => Box::new(StandIn::new()),
+        "pod" => Box::new(Pod),
+        "talk" => Box::new(Talk::new()),
+        _ => return None,
+    })
+}
+
+/// Answers every line of `input`, each answer written before the next line is read.
+pub fn converse(program: &mut dyn Program, input: &mut impl BufRead, output: &mut impl Write) -> io::Result<()> {
+    let mut line = Vec::new();
+    while crate::line::read_line(input, &mut line)? {
+        if let Some(answer) = program.answer(&line) {
+            output.write_all(answer.as_bytes())?;
+            output.write_all(b"\n")?;
+            output.flush()?;
+        }
+    }
+    Ok(())
+}
+
+/// The whole output of a program, by name, for a whole input.
+pub fn output_of(name: &str, mut input: &[u8]) -> Option<Vec<u8>> {
+    let mut output = Vec::new();
+    if name == "trace_list" {
+        trace_list(&mut input, &mut output).expect("a slice can be read and a vector written");
+    } else {
+        let mut program = line_program(name)?;
+        converse(program.as_mut(), &mut input, &mut output).expect("a slice can be read and a vector written");
+    }
+    Some(output)
+}

@@ -1,0 +1,30 @@
+//! `talk`: both halves joined.
+
+use super::pod::outcome_words;
+use super::{parse_request, Bench, Program};
+use crate::talk::talk;
+
+/// The bench, and requests sent over its port.
+#[derive(Default)]
+pub struct Talk {
+    pub bench: Bench,
+}
+
+impl Talk {
+    pub fn new() -> Talk {
+        Talk::default()
+    }
+}
+
+impl Program for Talk {
+    fn answer_words(&mut self, words: &[&[u8]]) -> Option<String> {
+        let Some(request) = parse_request(words) else {
+            return self.bench.answer_words(words);
+        };
+        let Bench { board, memory } = &mut self.bench;
+        Some(match talk(board, memory, &request) {
+            Ok((outcome, packets)) => format!("{} packets {packets}", outcome_words(outcome)),
+            Err(refusal) => refusal.to_string(),
+        })
+    }
+}

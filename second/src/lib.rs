@@ -1,0 +1,20 @@
+//! The second program: a stand-in for the Revision B debug port of the MCF5307, the pod's half that talks to it, and the
+//! lister of its recorded trace. Written from the requirements alone, it is what the proved programs are compared with.
+//!
+//! A benchmark uses [`board::Board::run`] and [`trace::list_trace`].
+
+pub mod board;
+pub mod check;
+pub mod command;
+pub mod desk;
+pub mod events;
+pub mod line;
+pub mod packets;
+pub mod pod;
+pub mod random;
+pub mod refusal;
+pub mod script;
+pub mod stored;
+pub mod talk;
+pub mod trace;
+mod work;

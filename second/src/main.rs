@@ -1,0 +1,57 @@
+//! `second NAME ..`: the desk's programs, their stored lines, and the comparison with other programs.
+
+use second::{check, desk, stored};
+use std::io::{self, BufWriter};
+use std::path::Path;
+use std::process::ExitCode;
+
+const USAGE: &str = "usage: second stand_in | pod | talk | trace_list
+       second gen DIR
+       second expect DIR
+       second compare [--all] BIN_DIR VECTORS_DIR
+       second random [--all] BIN_DIR SEED COUNT
+       second soak [--all] BIN_DIR SECONDS";
+
+fn main() -> ExitCode {
+    let arguments: Vec<String> = std::env::args().skip(1).collect();
+    let all = arguments.iter().any(|argument| argument == "--all");
+    let arguments: Vec<&str> = arguments.iter().map(String::as_str).filter(|&argument| argument != "--all").collect();
+    let done = match arguments[..] {
+        ["trace_list"] => list(),
+        [name] if desk::LINE_PROGRAMS.contains(&name) => converse(name),
+        ["gen", directory] => stored::generate(Path::new(directory)).map(|()| true),
+        ["expect", directory] => check::expect(Path::new(directory)).map(|()| true),
+        ["compare", programs, vectors] => check::compare(Path::new(programs), Path::new(vectors), all),
+        ["random", programs, seed, count] => match (seed.parse(), count.parse()) {
+            (Ok(seed), Ok(count)) => Ok(check::random(Path::new(programs), seed, count, all)),
+            _ => Err(USAGE.to_string()),
+        },
+        ["soak", programs, seconds] => match seconds.parse() {
+            Ok(seconds) => Ok(check::soak(Path::new(programs), seconds, all)),
+            Err(_) => Err(USAGE.to_string()),
+        },
+        _ => Err(USAGE.to_string()),
+    };
+    match done {
+        Ok(true) => ExitCode::SUCCESS,
+        Ok(false) => ExitCode::FAILURE,
+        Err(message) => {
+            eprintln!("{message}");
+            ExitCode::from(2)
+        }
+    }
+}
+
+fn converse(name: &str) -> Result<bool, String> {
+    let mut program = desk::line_program(name).expect("a line program's name");
+    let mut output = BufWriter::new(io::stdout().lock());
+    desk::converse(program.as_mut(), &mut io::stdin().lock(), &mut output)
+        .map_err(|error| format!("second {name}: {error}"))?;
+    Ok(true)
+}
+
+fn list() -> Result<bool, String> {
+    let mut output = BufWriter::new(io::stdout().lock());
+    desk::trace_list(&mut io::stdin().lock(), &mut output).map_err(|error| format!("second trace_list: {error}"))?;
+    Ok(true)
+}

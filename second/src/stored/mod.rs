@@ -1,0 +1,63 @@
+//! The stored inputs: readable scripts, written anew by `second gen`, always the same.
+
+mod boundaries;
+mod chains;
+mod commands;
+mod conversations;
+mod drops;
+mod events;
+mod firing;
+mod illegal;
+mod pod;
+mod sequences;
+mod traces;
+mod unclear;
+
+use std::fs;
+use std::path::Path;
+
+/// A stored input: its name without the ending, and its bytes.
+pub struct Stored {
+    pub program: &'static str,
+    pub name: String,
+    pub input: Vec<u8>,
+}
+
+impl Stored {
+    fn new(program: &'static str, name: impl Into<String>, input: Vec<u8>) -> Stored {
+        Stored { program, name: name.into(), input }
+    }
+
+    fn script(program: &'static str, name: impl Into<String>, lines: &[Vec<u8>]) -> Stored {
+        Stored::new(program, name, crate::script::to_bytes(lines, true))
+    }
+}
+
+/// Every stored input.
+pub fn all() -> Vec<Stored> {
+    let mut stored = Vec::new();
+    stored.extend(commands::all());
+    stored.extend(boundaries::all());
+    stored.extend(chains::all());
+    stored.extend(drops::all());
+    stored.extend(illegal::all());
+    stored.extend(sequences::all());
+    stored.extend(events::all());
+    stored.extend(firing::all());
+    stored.extend(unclear::all());
+    stored.extend(pod::all());
+    stored.extend(conversations::all());
+    stored.extend(traces::all());
+    stored
+}
+
+/// Writes NAME.in for every stored input, by program.
+pub fn generate(vectors: &Path) -> Result<(), String> {
+    for stored in all() {
+        let directory = vectors.join(stored.program);
+        fs::create_dir_all(&directory).map_err(|error| format!("{}: {error}", directory.display()))?;
+        let path = directory.join(stored.name).with_extension("in");
+        fs::write(&path, stored.input).map_err(|error| format!("{}: {error}", path.display()))?;
+    }
+    Ok(())
+}

@@ -1,0 +1,98 @@
+//! The binary itself: a conversation, and the comparison of programs with it.
+
+use std::fs;
+use std::io::{BufRead, BufReader, Write};
+use std::os::unix::fs::PermissionsExt;
+use std::path::{Path, PathBuf};
+use std::process::{Command, Output, Stdio};
+
+const SECOND: &str = env!("CARGO_BIN_EXE_second");
+
+#[test]
+fn each_answer_is_written_before_the_next_line_is_read() {
+    for (program, line, answer) in [
+        ("stand_in", "packet 0", "reply 0FFFF"),
+        ("pod", "build go", "words 00C00"),
+        ("talk", "nop", "complete packets 2"),
+    ] {
+        let mut child = Command::new(SECOND).arg(program).stdin(Stdio::piped()).stdout(Stdio::piped()).spawn().unwrap();
+        let mut input = child.stdin.take().unwrap();
+        let mut output = BufReader::new(child.stdout.take().unwrap()).lines();
+        for _ in 0..3 {
+            writeln!(input, "# no answer\n\n{line}").unwrap();
+            assert_eq!(output.next().unwrap().unwrap(), answer);
+        }
+        drop(input);
+        assert!(output.next().is_none());
+        assert!(child.wait().unwrap().success());
+    }
+}
+
+/// A directory of programs: `second` by its names, one of them behind a filter.
+fn programs(name: &str, filtered: &str, filter: &str) -> PathBuf {
+    let directory = Path::new(env!("CARGO_TARGET_TMPDIR")).join(name);
+    fs::create_dir_all(&directory).unwrap();
+    for program in ["stand_in", "pod", "talk", "trace_list"] {
+        let filter = if program == filtered { filter } else { "cat" };
+        let path = directory.join(program);
+        fs::write(&path, format!("#!/bin/sh\n'{SECOND}' {program} | {filter}\n")).unwrap();
+        fs::set_permissions(&path, fs::Permissions::from_mode(0o755)).unwrap();
+    }
+    directory
+}
+
+fn second(arguments: &[&str]) -> (bool, String) {
+    let Output { status, stdout, .. } = Command::new(SECOND).args(arguments).output().unwrap();
+    (status.success(), String::from_utf8(stdout).unwrap())
+}
+
+fn vectors() -> String {
+    format!("{}/vectors", env!("CARGO_MANIFEST_DIR"))
+}
+
+#[test]
+fn the_same_programs_agree() {
+    let directory = programs("same", "", "cat");
+    let bin = directory.to_str().unwrap();
+    let (good, text) = second(&["compare", "--all", bin, &vectors()]);
+    assert!(good, "{text}");
+    assert!(text.ends_with(" 0 differ, 0 missing\n"), "{text}");
+    let (good, text) = second(&["random", "--all", bin, "1", "3"]);
+    assert!(good, "{text}");
+    assert_eq!(text, "3 rounds agree: 4800 lines, 60 traces\n");
+    let (good, text) = second(&["soak", bin, "1"]);
+    assert!(good && text.ends_with("all agree\n"), "{text}");
+}
+
+#[test]
+fn a_difference_is_shown_with_its_cause() {
+    let directory = programs("changed", "stand_in", "sed s/10001/10002/");
+    let bin = directory.to_str().unwrap();
+    let (good, text) = second(&["compare", bin, &vectors()]);
+    assert!(!good && text.contains("DIFFERS stand_in/boundaries\n"), "{text}");
+    assert!(text.contains("  expected: reply 10001\n  actual:   reply 10002\n"), "{text}");
+    let (good, text) = second(&["random", bin, "1", "20"]);
+    assert!(!good && text.contains("the shortest script found:\n    packet "), "{text}");
+    let (good, text) = second(&["soak", bin, "20"]);
+    assert!(!good && text.contains("DIFFERS at seed "), "{text}");
+}
+
+#[test]
+fn a_shortest_trace_is_found() {
+    let directory = programs("changed_trace", "trace_list", "sed 's/ 15 0$/ 14 0/'");
+    let (good, text) = second(&["random", directory.to_str().unwrap(), "1", "20"]);
+    assert!(!good && text.contains("the shortest trace found:\n    F"), "{text}");
+}
+
+#[test]
+fn missing_programs_are_reported() {
+    let directory = programs("missing", "", "cat");
+    fs::remove_file(directory.join("talk")).unwrap();
+    let bin = directory.to_str().unwrap();
+    let (good, text) = second(&["compare", bin, &vectors()]);
+    assert!(good && text.starts_with("missing talk\n") && text.ends_with("1 missing\n"), "{text}");
+    let (good, _) = second(&["compare", "--all", bin, &vectors()]);
+    assert!(!good);
+    let (good, _) = second(&["random", "--all", bin, "1", "1"]);
+    assert!(!good);
+}
