@@ -15,8 +15,8 @@ use Rattle.board.specs.declared.Chain.{Chain}
 use Rattle.plan.specs.declared.Plan.{Plan}
 use Rattle.plan.specs.declared.Plan.the-variants.{Hold, Reject, Release, Work}
 use Rattle.plan.specs.Plan.{carriesC, addressIn, valueIn, withOperand, ready, waitsOf, collected, continued, planOf}
-use Rattle.promises.specs.Fits.{PhaseFits}
-use Rattle.promises.specs.PlanFits.{by-test}
+use Rattle.port.specs.Sound.{PhaseWithin}
+use Rattle.port.specs.SoundPlan.{either}
 use Rattle.promises.specs.NopLaws.{nop-at-rest}
 
 -- a command whose work does not read the status
@@ -61,21 +61,21 @@ PlanCalm (Work c address value) = Calm c
 
 ready-calm : (left : ℕ) (c : Command) (address value : ℕ) → Calm c → PlanCalm (ready left c address value)
 unfolding ready
-ready-calm left c address value h = by-test PlanCalm (eqb left 0) (Work c address value) (Hold (Waiting c left address value)) (λ e. h) (λ e. tt)
+ready-calm left c address value h = either PlanCalm (eqb left 0) (Work c address value) (Hold (Waiting c left address value)) (λ e. h) (λ e. tt)
 
 continued-calm : (c : Command) (left : ℕ) (t : Operands) (w word : ℕ) → Calm c → PlanCalm (continued c left t w word)
 unfolding continued collected
 continued-calm c left t w word h =
-    by-test PlanCalm (carriesC word) Reject (collected w (left - 1) c (withOperand t word)) (λ e. tt)
-    (λ e. by-test PlanCalm (eqb (left - 1) 0)
+    either PlanCalm (carriesC word) Reject (collected w (left - 1) c (withOperand t word)) (λ e. tt)
+    (λ e. either PlanCalm (eqb (left - 1) 0)
     (ready (waitsOf w c) c (addressIn (operandWords c) (withOperand t word)) (valueIn (operandWords c) (withOperand t word))) (Hold (Due c (left - 1) (withOperand t word)))
     (λ z. ready-calm (waitsOf w c) c (addressIn (operandWords c) (withOperand t word)) (valueIn (operandWords c) (withOperand t word)) h)
     (λ z. tt))
 
-pub nop-calm : (w : ℕ) (phase : Phase) (halted : Bool) (chain : Chain) → PhaseFits w phase → PlanCalm (planOf phase halted chain w 0)
+pub nop-calm : (w : ℕ) (phase : Phase) (halted : Bool) (chain : Chain) → PhaseWithin w phase → PlanCalm (planOf phase halted chain w 0)
 nop-calm w Rest halted chain h = rw (nop-at-rest halted chain w) tt
-nop-calm w (Due c left t) halted chain h = continued-calm c left t w 0 (calm c (omega (arith, h .some, h .atMost)))
-nop-calm w (Waiting c left address value) halted chain h = ready-calm (left - 1) c address value (calm c (rw (h .0) (omega arith)))
+nop-calm w (Due c left t) halted chain h = continued-calm c left t w 0 (calm c (omega (arith, h .0, h .1)))
+nop-calm w (Waiting c left address value) halted chain h = ready-calm (left - 1) c address value (calm c (rw (h .2) (omega arith)))
 nop-calm w (Low low) halted chain h = tt
 
 -- a NOP is taken for the same, halted or running

@@ -24,7 +24,8 @@ use Rattle.port.specs.Packets.{placeBy, planFor, placeNext}
 use Rattle.promises.specs.Words.{Word, endingFound, ended, stage}
 use Rattle.promises.specs.Words.Stage.{upperDue, closed}
 use Rattle.promises.specs.Environment.{Found, begins, goesOn, showsUpper, heard}
-use Rattle.promises.specs.PlanFits.{by-test, not-none}
+use Rattle.port.specs.SoundPlan.{either}
+use Rattle.promises.specs.StageLaws.{not-none}
 use Rattle.promises.specs.OperandLaws.{held, held-end, any-c-end}
 use Rattle.promises.specs.StageLaws.{Open, stage-due, stage-waiting, stage-ended, stage-shown, ending-held}
 
@@ -74,14 +75,14 @@ module _ (w : ℕ) (b : Board) (p : Place) (m : List ℕ) (c : Command) (o : Wor
       → PlaceTells w (placeBy (ready left c (addressIn (operandWords c) t) value) b p m) (o ∷ os)
   unfolding ready
   tells-ready left t value h e =
-      by-test (λ (plan : Plan). PlaceTells w (placeBy plan b p m) (o ∷ os)) (eqb left 0) (Work c (addressIn (operandWords c) t) value) (Hold (Waiting c left (addressIn (operandWords c) t) value))
+      either (λ (plan : Plan). PlaceTells w (placeBy plan b p m) (o ∷ os)) (eqb left 0) (Work c (addressIn (operandWords c) t) value) (Hold (Waiting c left (addressIn (operandWords c) t) value))
       (λ none. tells-work t value h (omega (arith, eqb-true left 0 none)))
       (λ some. record { asked = rw (h .kept) h; sent = rw (h .kept); count = e; some = not-none left some })
 
   tells-collected : (left : ℕ) (t : Operands) → Open w c left t o → o .waited ≡ 0 → PlaceTells w (placeBy (collected w left c t) b p m) (o ∷ os)
   unfolding collected
   tells-collected left t h e =
-      by-test (λ (plan : Plan). PlaceTells w (placeBy plan b p m) (o ∷ os)) (eqb left 0) (ready (waitsOf w c) c (addressIn (operandWords c) t) (valueIn (operandWords c) t)) (Hold (Due c left t))
+      either (λ (plan : Plan). PlaceTells w (placeBy plan b p m) (o ∷ os)) (eqb left 0) (ready (waitsOf w c) c (addressIn (operandWords c) t) (valueIn (operandWords c) t)) (Hold (Due c left t))
       (λ none. tells-ready (waitsOf w c) t (valueIn (operandWords c) t) (rw (eqb-true left 0 none) at h) (omega arith))
       (λ some. (h, not-none left some, e))
 
@@ -89,7 +90,7 @@ tells-begun : (w : ℕ) (f : Found) (p : Place) (os : List Word) → f .board .w
     → PlaceTells w (placeBy (begun (f .board .status .halted) (p .chain) w (f .word)) (f .board) p (f .memory)) (begins f p ∷ os)
 unfolding begun stage
 tells-begun w f p os e =
-    by-test (λ (plan : Plan). PlaceTells w (placeBy plan (f .board) p (f .memory)) (begins f p ∷ os)) (lawful (f .word) (f .board .status .halted) (p .chain))
+    either (λ (plan : Plan). PlaceTells w (placeBy plan (f .board) p (f .memory)) (begins f p ∷ os)) (lawful (f .word) (f .board .status .halted) (p .chain))
     (collected w (operandWords (decoded (f .word))) (decoded (f .word)) noOperands) Reject
     (λ lawful. tells-collected w (f .board) p (f .memory) (decoded (f .word)) (begins f p) os (record { board = refl; pointer = refl; memory = refl }) (operandWords (decoded (f .word))) noOperands
     (record { same = refl; judged = lawful; clear = refl; kept = refl; count = omega arith; unshown = refl; setting = e }) refl)
@@ -99,7 +100,7 @@ tells-continued : (w : ℕ) (c : Command) (left : ℕ) (t : Operands) (f : Found
     → PlaceTells w (placeBy (continued c left t w (f .word)) (f .board) p (f .memory)) (goesOn (o .operands ++ (f .word ∷ [])) (o .waited) f p o ∷ os)
 unfolding continued stage
 tells-continued w c left t f p o os e h l z =
-    by-test (λ (plan : Plan). PlaceTells w (placeBy plan (f .board) p (f .memory)) (goesOn (o .operands ++ (f .word ∷ [])) (o .waited) f p o ∷ os)) (carriesC (f .word))
+    either (λ (plan : Plan). PlaceTells w (placeBy plan (f .board) p (f .memory)) (goesOn (o .operands ++ (f .word ∷ [])) (o .waited) f p o ∷ os)) (carriesC (f .word))
     Reject (collected w (left - 1) c (withOperand t (f .word)))
     (λ set. rw (h .judged, any-c-end (o .operands) (f .word) (h .clear), set))
     (λ clear. tells-collected w (f .board) p (f .memory) c (goesOn (o .operands ++ (f .word ∷ [])) (o .waited) f p o) os (record { board = refl; pointer = refl; memory = refl }) (left - 1) (withOperand t (f .word))

@@ -13,9 +13,9 @@ use Rattle.board.specs.declared.Made.{Made}
 use Rattle.board.specs.Board.{MakingMeets}
 use Rattle.trigger.specs.declared.Event.{Event}
 use Rattle.port.specs.declared.Answer.{Answer}
-use Rattle.port.specs.declared.Outcome.the-variants.{Reply, Refusing}
-use Rattle.port.specs.Packets.{packetVerdict, replyNow, placeNext, boardNext, memoryNext, said, unless}
+use Rattle.port.specs.Packets.{packetVerdict, placeNext, boardNext, unless}
 use Rattle.port.specs.Promise.{PacketMeets}
+use Rattle.port.specs.PacketLaws.{Unaltered, refusal-changes-nothing, Stepped, accepted-takes-its-step}
 use Rattle.bus.specs.declared.EventAnswer.{EventAnswer}
 use Rattle.bus.specs.declared.BreakpointAnswer.{BreakpointAnswer}
 use Rattle.bus.specs.Events.{eventVerdict, breakpointVerdict, EventMeets, BreakpointMeets}
@@ -24,32 +24,18 @@ use Rattle.promises.specs.Machine.{State, state, standIn}
 use Rattle.promises.specs.History.{Lent, afterCall, made}
 use Rattle.promises.specs.History.Call.{packet, event, breakpoint}
 
--- what an accepted packet hands back
-pub record HandsBack (s : State) (m : Lent) (word : ℕ) (r : Answer) (out : List ℕ) : Type 0 where
-  -- It answers no refusal and the reply fixed by the state before it.
-  pub reply : said (r .outcome) ≡ said (Reply (replyNow (s .place)))
-  -- It leaves the memory that the step leaves.
-  pub memory : out ≡ memoryNext (s .board) (s .place) (m .bytes) word
-
--- what a refused packet hands back
-pub record GivesBack (m : Lent) (g : Ground) (r : Answer) (out : List ℕ) : Type 0 where
-  -- It answers its ground's number.
-  pub refusal : said (r .outcome) ≡ said (Refusing g)
-  -- It leaves memory as it was.
-  pub memory : out ≡ m .bytes
-
 pub record CodeSteps : Type 0 where
   -- A board made with W from 0 to 15 is where a history begins.
   pub making : (w : ℕ) (r : Made) → w ≤ 15 → MakingMeets w r → state (r .board) (r .place) ≡ made w
   -- A packet leaves what a history's packet leaves,
   pub packets : (s : State) (m : Lent) (word : ℕ) (r : Answer) (out : List ℕ) → PacketMeets (s .board) (s .place) (m .bytes) word r out
       → state (r .board) (r .place) ≡ afterCall standIn s (packet m word)
-  -- hands back its reply and memory where it is accepted,
+  -- replies from the state before it and takes its step where it is accepted,
   pub accepted : (s : State) (m : Lent) (word : ℕ) (r : Answer) (out : List ℕ) → PacketMeets (s .board) (s .place) (m .bytes) word r out
-      → packetVerdict (s .board) (s .place) (m .bytes) word ≡ Accepted → HandsBack s m word r out
-  -- and everything as it was given where it is refused.
+      → packetVerdict (s .board) (s .place) (m .bytes) word ≡ Accepted → Stepped (s .board) (s .place) (m .bytes) word r out
+  -- and gives its number and everything as it was where it is refused.
   pub refused : (s : State) (m : Lent) (word : ℕ) (r : Answer) (out : List ℕ) (g : Ground) → PacketMeets (s .board) (s .place) (m .bytes) word r out
-      → packetVerdict (s .board) (s .place) (m .bytes) word ≡ Refused g → GivesBack m g r out
+      → packetVerdict (s .board) (s .place) (m .bytes) word ≡ Refused g → Unaltered (s .board) (s .place) (m .bytes) g r out
   -- An event leaves what a history's event leaves, the place untouched,
   pub events : (s : State) (e : Event) (r : EventAnswer) → EventMeets (s .board) (s .place) e r → state (r .board) (s .place) ≡ afterCall standIn s (event e)
   -- and the breakpoint input what a history's leaves.
@@ -71,8 +57,8 @@ code-steps = record {
   packets = λ s m word r out f.
       ap₂ state (f .board) (f .place)
       ∙ of-two (packetVerdict (s .board) (s .place) (m .bytes) word) (s .board) (boardNext (s .board) (s .place) word) (s .place) (placeNext (s .board) (s .place) (m .bytes) word);
-  accepted = λ s m word r out f e. record { reply = f .answer ∙ rw e; memory = f .memory ∙ rw e };
-  refused = λ s m word r out g f e. record { refusal = f .answer ∙ rw e; memory = f .memory ∙ rw e };
+  accepted = λ s m word r out f e. accepted-takes-its-step f e;
+  refused = λ s m word r out g f e. refusal-changes-nothing g f e;
   events = λ s e r f. ap (λ (b : Board). state b (s .place)) (f .board);
   inputs = λ s r f. ap (λ (b : Board). state b (s .place)) (f .board);
   stillPacket = λ s m word g e. rw e;

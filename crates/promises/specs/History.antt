@@ -1,7 +1,8 @@
 -- Demand 3: a history is any list of calls on a fresh board with any W from 0 to 15. Refused calls change nothing.
-use Prim.Native.Nat.{ℕ, _<_, _≤_}
+use Prim.Native.Nat.{ℕ, _≤_}
 use mathlib.Core.List.{List, [], _∷_}
-use lib.ListN.{getD, length}
+use lib.ListN.{length}
+use Rattle.memory.specs.MemoryLaws.{AllBelow}
 use Rattle.board.specs.Board.{freshBoard, freshPlace}
 use Rattle.trigger.specs.declared.Event.{Event}
 use Rattle.port.specs.Packets.{unless}
@@ -11,7 +12,7 @@ use Rattle.promises.specs.Environment.{Found}
 -- "Memory is a lent buffer": bytes
 pub record Lent : Type 0 where
   pub bytes : List ℕ
-  pub narrow : (i : ℕ) → getD bytes i 0 < 256
+  pub narrow : AllBelow 256 bytes
 
 -- a packet is lent its own memory, which need not be what the last call left
 pub data Call : Type 0 where

@@ -1,10 +1,10 @@
 -- Demand 3: what every call of a history keeps, and a history as one place in the environment that its calls make.
-use Prim.Native.Nat.{ℕ, zero, suc, _^_, _≤_, _<_}
+use Prim.Native.Nat.{ℕ, _≤_}
 use mathlib.Core.Path.{_≡_, refl, ap}
 use mathlib.Core.Bool.{Bool, true, false, cond, _&&_}
 use mathlib.Core.List.{List, [], _∷_}
 use lib.Dec.{leb}
-use lib.ListN.{length, getD, replicate}
+use lib.ListN.{length}
 use native.Mathlib.Omega.{arith}
 use borrow.Author.Tests.{leb-true}
 use Rattle.grounds.specs.declared.Ground.{Ground}
@@ -22,24 +22,19 @@ use Rattle.promises.specs.Machine.{State, standIn}
 use Rattle.promises.specs.Environment.{Found, Trail, noted, trail}
 use Rattle.promises.specs.History.{Lent, Call, finding, taking, afterCall, after, foundBy, finds, made}
 use Rattle.promises.specs.History.Call.{packet, event, breakpoint}
-use Rattle.promises.specs.Fits.{PlaceFits, BoardFits, MemoryFits, AllFit}
+use Rattle.port.specs.Sound.{SoundPlace, SoundMemory}
+use Rattle.port.specs.SoundLaws.{fresh-board-is-sound, fresh-place-is-sound}
+use Rattle.promises.specs.Fits.{BoardOf, AllFit}
 use Rattle.promises.specs.Fits.AllFit.{none, more}
-use Rattle.promises.specs.BoardFits.{status-fits}
-use Rattle.promises.specs.PacketFits.{place-fits-after, board-fits-after, fits-then-ranged}
-use Rattle.promises.specs.PlaceRest.{fresh-place-fits}
+use Rattle.promises.specs.FitLaws.{place-kept, board-kept, in-range, status-kept}
 
 pub record Sound (w : ℕ) (s : State) : Type 0 where
-  pub board : BoardFits w (s .board)
-  pub place : PlaceFits w (s .place)
+  pub board : BoardOf w (s .board)
+  pub place : SoundPlace w (s .place)
 
-zeros-fit : (n i : ℕ) → getD (replicate n 0) i 0 < 2 ^ 32
-zeros-fit zero i = omega arith
-zeros-fit (suc n) zero = omega arith
-zeros-fit (suc n) (suc i) = zeros-fit n i
-
-pub fresh-sound : (w : ℕ) → Sound w (made w)
-unfolding freshBoard bstatInRange
-fresh-sound w = record { board = record { setting = refl; bstat = refl; general = zeros-fit 16; control = zeros-fit 10 }; place = fresh-place-fits w }
+pub fresh-sound : (w : ℕ) → w ≤ 15 → Sound w (made w)
+unfolding freshBoard
+fresh-sound w small = record { board = record { setting = refl; sound = fresh-board-is-sound w small }; place = fresh-place-is-sound w }
 
 -- an accepted packet has passed grounds 3 and 1
 refused-is-not-accepted : (g : Ground) → Refused g ≡ Accepted → ⊥
@@ -70,29 +65,27 @@ unfolding inRange
 ranged-bstat b p h =
     fourth (leb (b .w) 15) (phaseInRange (b .w) (p .phase)) (leb (p .next) 0x1FFFF) (bstatInRange (b .status .bstat)) (leb (p .pointer) 65536) h
 
-module _ (w : ℕ) (small : w ≤ 15) (s : State) (h : Sound w s) where
+module _ (w : ℕ) (s : State) (h : Sound w s) where
   ranged : inRange (s .board) (s .place) ≡ true
-  ranged = fits-then-ranged w (s .board) (s .place) small (h .board) (h .place)
+  ranged = in-range w (s .board) (s .place) (h .board) (h .place)
 
-  sound-event : (e : Event) → BoardFits w (boardAfterEvent (s .board) (s .place) e)
+  sound-event : (e : Event) → BoardOf w (boardAfterEvent (s .board) (s .place) e)
   sound-event e =
       rw (event-changes-status-alone (s .board) (s .place) e)
-      (status-fits w (s .board) (h .board) (boardAfterEvent (s .board) (s .place) e .status)
-      (ranged-bstat (boardAfterEvent (s .board) (s .place) e) (s .place) (event-keeps-ranges (s .board) (s .place) e ranged)))
+      (status-kept w (s .board) (boardAfterEvent (s .board) (s .place) e .status) (ranged-bstat (boardAfterEvent (s .board) (s .place) e) (s .place) (event-keeps-ranges (s .board) (s .place) e ranged)) (h .board))
 
-  sound-breakpoint : BoardFits w (boardAfterBreakpoint (s .board) (s .place))
+  sound-breakpoint : BoardOf w (boardAfterBreakpoint (s .board) (s .place))
   sound-breakpoint =
       rw (breakpoint-changes-status-alone (s .board) (s .place))
-      (status-fits w (s .board) (h .board) (boardAfterBreakpoint (s .board) (s .place) .status)
-      (ranged-bstat (boardAfterBreakpoint (s .board) (s .place)) (s .place) (breakpoint-keeps-ranges (s .board) (s .place) ranged)))
+      (status-kept w (s .board) (boardAfterBreakpoint (s .board) (s .place) .status) (ranged-bstat (boardAfterBreakpoint (s .board) (s .place)) (s .place) (breakpoint-keeps-ranges (s .board) (s .place) ranged)) (h .board))
 
-  memory-fits : (m : Lent) (word : ℕ) → packetVerdict (s .board) (s .place) (m .bytes) word ≡ Accepted → MemoryFits (m .bytes)
+  memory-fits : (m : Lent) (word : ℕ) → packetVerdict (s .board) (s .place) (m .bytes) word ≡ Accepted → SoundMemory (m .bytes)
   memory-fits m word e = record { bytes = m .narrow; limit = accepted-within (s .board) (s .place) (m .bytes) word e .0 }
 
-  pub sound-packet : (m : Lent) (word : ℕ) → MemoryFits (m .bytes) → Sound w (taking standIn s m word)
+  pub sound-packet : (m : Lent) (word : ℕ) → SoundMemory (m .bytes) → Sound w (taking standIn s m word)
   sound-packet m word fits = record {
-    board = board-fits-after w (s .board) (s .place) (m .bytes) (h .board) (h .place) fits word;
-    place = place-fits-after w (s .board) (s .place) (m .bytes) (h .board) (h .place) fits word;
+    board = board-kept w (s .board) (s .place) (h .board) (h .place) (m .bytes) fits word;
+    place = place-kept w (s .board) (s .place) (h .board) (h .place) (m .bytes) fits word;
   }
 
   pub sound-call : (c : Call) → Sound w (afterCall standIn s c)
@@ -115,16 +108,16 @@ module _ (w : ℕ) (small : w ≤ 15) (s : State) (h : Sound w s) where
   found-fits (event e) fs others = others
   found-fits breakpoint fs others = others
 
-module _ (w : ℕ) (small : w ≤ 15) where
+module _ (w : ℕ) where
   pub sound-after : (s : State) (cs : List Call) → Sound w s → Sound w (after standIn s cs)
   unfolding after
   sound-after s [] h = h
-  sound-after s (c ∷ cs) h = sound-after (afterCall standIn s c) cs (sound-call w small s h c)
+  sound-after s (c ∷ cs) h = sound-after (afterCall standIn s c) cs (sound-call w s h c)
 
   pub finds-fit : (s : State) (cs : List Call) → Sound w s → AllFit w (finds standIn s cs)
   unfolding finds
   finds-fit s [] h = none
-  finds-fit s (c ∷ cs) h = found-fits w small s h c (finds standIn (afterCall standIn s c) cs) (finds-fit (afterCall standIn s c) cs (sound-call w small s h c))
+  finds-fit s (c ∷ cs) h = found-fits w s h c (finds standIn (afterCall standIn s c) cs) (finds-fit (afterCall standIn s c) cs (sound-call w s h c))
 
 -- the place that a history leads to is the place of its trail
 along : (v : Verdict) (s : State) (t : Trail) (m : Lent) (word : ℕ) (cs : List Call)

@@ -1,10 +1,10 @@
 -- Memory lent to a history: a list whose bytes are seen to be bytes.
-use Prim.Native.Nat.{ℕ, zero, suc, _<_}
+use Prim.Native.Nat.{ℕ, zero, suc}
 use mathlib.Core.Path.{_≡_, refl}
 use mathlib.Core.Bool.{Bool, true, false, _&&_}
 use mathlib.Core.List.{List, [], _∷_, map}
 use lib.Dec.{ltb}
-use lib.ListN.{getD}
+use Rattle.memory.specs.MemoryLaws.{AllBelow}
 use native.Mathlib.Omega.{arith}
 use borrow.Author.Tests.{ltb-true}
 use Rattle.promises.specs.Machine.{State, standIn}
@@ -24,7 +24,7 @@ second : (x y : Bool) → (x && y) ≡ true → y ≡ true
 second true y h = h
 second false y h = let z : false ≡ true = h in cc
 
-pub narrow : (xs : List ℕ) → allBytes xs ≡ true → (i : ℕ) → getD xs i 0 < 256
+pub narrow : (xs : List ℕ) → allBytes xs ≡ true → AllBelow 256 xs
 narrow [] h i = omega arith
 narrow (x ∷ xs) h zero = ltb-true x 256 (first (ltb x 256) (allBytes xs) h)
 narrow (x ∷ xs) h (suc i) = narrow xs (second (ltb x 256) (allBytes xs) h) i

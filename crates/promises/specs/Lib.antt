@@ -4,10 +4,7 @@ pub mod Environment
 pub mod History
 pub mod Fits
 pub mod Promises
-pub mod PlanFits
-pub mod WorkFits
-pub mod BoardFits
-pub mod PacketFits
+pub mod FitLaws
 pub mod ToGo
 pub mod NopLaws
 pub mod OperandLaws
@@ -20,8 +17,8 @@ pub mod QuietLaws
 pub mod HistoryLaws
 pub mod IdleLaws
 pub mod NeverStranded
+pub mod Code
 pub mod Lending
 pub mod ByEye
 pub mod Tight
-pub mod Code
 pub mod Refuted

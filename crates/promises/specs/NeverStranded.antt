@@ -9,8 +9,9 @@ use Rattle.promises.specs.Machine.{State, standIn}
 use Rattle.promises.specs.Environment.{isRest, Trail, begun}
 use Rattle.promises.specs.History.{Lent, Call, after, finds, made, Idle}
 use Rattle.promises.specs.Promises.{PlaceRests, NopsBring, trailOf, NeverStranded, ClosingReplies, Demand3, PlaceDemand3}
-use Rattle.promises.specs.Fits.{AllFit, AllNops, PlaceFits}
-use Rattle.promises.specs.PacketFits.{fits-then-ranged}
+use Rattle.port.specs.Sound.{SoundPlace}
+use Rattle.promises.specs.Fits.{AllFit, AllNops}
+use Rattle.promises.specs.FitLaws.{in-range}
 use Rattle.promises.specs.PlaceClosing.{kept-from-fresh, place-closes}
 use Rattle.promises.specs.PlaceRest.{place-rests-from, place-rests}
 use Rattle.promises.specs.HistoryLaws.{Sound, fresh-sound, sound-after, finds-fit, place-of-trail}
@@ -18,10 +19,10 @@ use Rattle.promises.specs.IdleLaws.{idle-found, idle-unmoved}
 
 module _ (w : ℕ) (small : w ≤ 15) (history : List Call) where
   reached : Sound w (after standIn (made w) history)
-  reached = sound-after w small (made w) history (fresh-sound w)
+  reached = sound-after w (made w) history (fresh-sound w small)
 
   found : AllFit w (finds standIn (made w) history)
-  found = finds-fit w small (made w) history (fresh-sound w)
+  found = finds-fit w (made w) history (fresh-sound w small)
 
   here : after standIn (made w) history .place ≡ trailOf standIn w history .place
   here = place-of-trail (made w) begun history refl
@@ -33,19 +34,19 @@ module _ (w : ℕ) (small : w ≤ 15) (history : List Call) where
   nops-bring ms idle i =
       let s : State = after standIn (made w) history in
       let t : Trail = trailOf standIn w history in
-      let nops : AllNops w (finds standIn s idle) × (length (finds standIn s idle) ≡ length ms) = idle-found w small s ms idle i reached in
+      let nops : AllNops w (finds standIn s idle) × (length (finds standIn s idle) ≡ length ms) = idle-found w s ms idle i reached in
       let brought : PlaceRests standIn w t (finds standIn s idle) =
-      place-rests-from w t (finds standIn s idle) (nops .0) (kept-from-fresh w (finds standIn (made w) history) found) (subst (PlaceFits w) here (reached .place)) in
+      place-rests-from w t (finds standIn s idle) (nops .0) (kept-from-fresh w (finds standIn (made w) history) found) (subst (SoundPlace w) here (reached .place)) in
       record {
         accepted = nops .1;
         enough = λ l. ap (λ (p : Place). isRest (p .phase)) (place-of-trail s t idle here) ∙ brought .enough (omega (arith, nops .1));
         brought = brought;
-        unmoved = idle-unmoved w small s ms idle i reached;
+        unmoved = idle-unmoved w s ms idle i reached;
       }
 
   pub never-stranded : NeverStranded standIn w history
   never-stranded = record {
-    ranged = fits-then-ranged w (after standIn (made w) history .board) (after standIn (made w) history .place) small (reached .board) (reached .place);
+    ranged = in-range w (after standIn (made w) history .board) (after standIn (made w) history .place) (reached .board) (reached .place);
     nops = nops-bring;
   }
 

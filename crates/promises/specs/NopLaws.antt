@@ -14,8 +14,8 @@ use Rattle.board.specs.declared.Chain.{Chain}
 use Rattle.plan.specs.declared.Plan.the-variants.{Work}
 use Rattle.plan.specs.Plan.{ready, waitsOf, collected, begun, continued, planOf}
 use Rattle.port.specs.Packets.{planFor, placeNext}
-use Rattle.promises.specs.Fits.{PhaseFits}
-use Rattle.promises.specs.ToGo.{uppers, toGo, PlanWithin, within-more, place-within, ready-within, continued-within}
+use Rattle.port.specs.Sound.{PhaseWithin}
+use Rattle.promises.specs.ToGo.{uppers, toGo, PlanLeaves, leaves-more, place-leaves, ready-leaves, continued-leaves}
 
 -- at rest a NOP does its work at once, halted or running, in or out of a chain
 pub nop-at-rest : (halted : Bool) (chain : Chain) (w : ℕ) → begun halted chain w 0 ≡ Work Nop 0 0
@@ -23,16 +23,16 @@ unfolding begun collected ready decoded decodedWord
 nop-at-rest true chain w = refl
 nop-at-rest false chain w = refl
 
-nop-within : (w : ℕ) (phase : Phase) (halted : Bool) (chain : Chain) → PhaseFits w phase → PlanWithin w (toGo w phase - 1) (planOf phase halted chain w 0)
-nop-within w Rest halted chain h = rw (nop-at-rest halted chain w) zero-le
-nop-within w (Due c left t) halted chain h =
-    within-more w (left - 1 + waitsOf w c + uppers c) (left + waitsOf w c + uppers c - 1) (continued c left t w 0) (omega (arith, h .some)) (continued-within c left t w 0)
-nop-within w (Waiting c left address value) halted chain h =
-    within-more w (left - 1 + uppers c) (left + uppers c - 1) (ready (left - 1) c address value) (omega (arith, h .1 .some)) (ready-within w (left - 1) c address value)
-nop-within w (Low low) halted chain h = tt
+nop-leaves : (w : ℕ) (phase : Phase) (halted : Bool) (chain : Chain) → PhaseWithin w phase → PlanLeaves w (toGo w phase - 1) (planOf phase halted chain w 0)
+nop-leaves w Rest halted chain h = rw (nop-at-rest halted chain w) zero-le
+nop-leaves w (Due c left t) halted chain h =
+    leaves-more w (left - 1 + waitsOf w c + uppers c) (left + waitsOf w c + uppers c - 1) (continued c left t w 0) (omega (arith, h .0)) (continued-leaves c left t w 0)
+nop-leaves w (Waiting c left address value) halted chain h =
+    leaves-more w (left - 1 + uppers c) (left + uppers c - 1) (ready (left - 1) c address value) (omega (arith, h .0)) (ready-leaves w (left - 1) c address value)
+nop-leaves w (Low low) halted chain h = tt
 
-pub nop-takes-one-off : (w : ℕ) (b : Board) (p : Place) (m : List ℕ) → b .w ≡ w → PhaseFits w (p .phase) → toGo w (placeNext b p m 0 .phase) ≤ toGo w (p .phase) - 1
+pub nop-takes-one-off : (w : ℕ) (b : Board) (p : Place) (m : List ℕ) → b .w ≡ w → PhaseWithin w (p .phase) → toGo w (placeNext b p m 0 .phase) ≤ toGo w (p .phase) - 1
 unfolding placeNext planFor
 nop-takes-one-off w b p m e h =
-    place-within w (toGo w (p .phase) - 1) (planOf (p .phase) (b .status .halted) (p .chain) (b .w) 0) b p m
-    (rw e (nop-within w (p .phase) (b .status .halted) (p .chain) h))
+    place-leaves w (toGo w (p .phase) - 1) (planOf (p .phase) (b .status .halted) (p .chain) (b .w) 0) b p m
+    (rw e (nop-leaves w (p .phase) (b .status .halted) (p .chain) h))

@@ -14,7 +14,7 @@ use Rattle.plan.specs.declared.Plan.{Plan}
 use Rattle.plan.specs.declared.Plan.the-variants.{Hold, Reject, Release, Work}
 use Rattle.port.specs.Packets.{placeBy, boardBy, memoryBy, planFor, placeNext, boardNext, memoryNext}
 use Rattle.promises.specs.Promises.{SameButStatus}
-use Rattle.promises.specs.Fits.{PhaseFits}
+use Rattle.port.specs.Sound.{PhaseWithin}
 use Rattle.promises.specs.CalmLaws.{Calm, PlanCalm, nop-calm, nop-halted-or-not}
 
 module _ (b : Board) (s : Status) where
@@ -89,7 +89,7 @@ pub record SameNop (a b : Board) (p : Place) (m : List ℕ) : Type 0 where
   pub board : SameButStatus (boardNext a p 0) (boardNext b p 0)
   pub memory : memoryNext a p m 0 ≡ memoryNext b p m 0
 
-module _ (w : ℕ) (b : Board) (p : Place) (m : List ℕ) (setting : b .w ≡ w) (fits : PhaseFits w (p .phase)) where
+module _ (w : ℕ) (b : Board) (p : Place) (m : List ℕ) (setting : b .w ≡ w) (fits : PhaseWithin w (p .phase)) where
   same-plan : (s : Status) → planFor (withStatus b s) p 0 ≡ planFor b p 0
   unfolding planFor
   same-plan s = nop-halted-or-not (b .w) (p .phase) (s .halted) (b .status .halted) (p .chain)

@@ -22,7 +22,8 @@ use Rattle.promises.specs.Words.Closing.{reply}
 use Rattle.promises.specs.Environment.{Found, isRest, trail}
 use Rattle.promises.specs.History.{Call, after, finds, made, Idle}
 use Rattle.promises.specs.History.Call.{event}
-use Rattle.promises.specs.Fits.{MemoryFits, AllFit, AllNops}
+use Rattle.promises.specs.Fits.{AllFit, AllNops}
+use Rattle.port.specs.Sound.{SoundMemory}
 use Rattle.promises.specs.Promises.{Demand3, PlaceDemand3}
 use Rattle.promises.specs.HistoryLaws.{fresh-sound}
 use Rattle.promises.specs.Lending.{lent, sends}
@@ -31,15 +32,15 @@ use Rattle.promises.specs.Lending.{lent, sends}
 abbrev onFresh : ℕ → Found
 onFresh word = record { board = freshBoard 2; memory = []; word = word }
 
-no-memory-fits : MemoryFits []
+no-memory-fits : SoundMemory []
 no-memory-fits = record { bytes = λ i. omega arith; limit = omega arith }
 
 one-fits : (word : ℕ) → word ≤ 0x1FFFF → AllFit 2 (onFresh word ∷ [])
-one-fits word h = AllFit.more (record { board = fresh-sound 2 .board; memory = no-memory-fits; word = h }) AllFit.none
+one-fits word h = AllFit.more (record { board = fresh-sound 2 (omega arith) .board; memory = no-memory-fits; word = h }) AllFit.none
 
 nops-fit : (n : ℕ) → AllNops 2 (replicate n (onFresh 0))
 nops-fit zero = AllNops.done
-nops-fit (suc n) = AllNops.nop (freshBoard 2) [] (fresh-sound 2 .board) no-memory-fits (nops-fit n)
+nops-fit (suc n) = AllNops.nop (freshBoard 2) [] (fresh-sound 2 (omega arith) .board) no-memory-fits (nops-fit n)
 
 -- A port that is always at rest: whatever else it does, it rests after READ's command word, whose operands are missing.
 pub always-at-rest : (k : Machine) → ((b : Board) (p : Place) (m : List ℕ) (word : ℕ) → k .place b p m word .phase ≡ Rest) → PlaceDemand3 k → ⊥

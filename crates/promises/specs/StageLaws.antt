@@ -5,7 +5,7 @@ use mathlib.Core.Bool.{true, false}
 use lib.Dec.{eqb}
 use lib.ListN.{length}
 use native.Mathlib.Omega.{arith}
-use borrow.Author.Tests.{eq-eqb, ne-eqb}
+use borrow.Author.Tests.{eqb-false, eq-eqb, ne-eqb}
 use Rattle.command.specs.declared.Command.{Command}
 use Rattle.command.specs.Command.{decoded, operandWords}
 use Rattle.board.specs.declared.Operands.{Operands}
@@ -16,6 +16,9 @@ use Rattle.promises.specs.Words.{Word, anyC, endingFound, ended, stage}
 use Rattle.promises.specs.Words.Stage.{operandDue, waitDue}
 use Rattle.promises.specs.Environment.{showsUpper}
 use Rattle.promises.specs.OperandLaws.{held, ending-sent}
+
+pub not-none : (n : ℕ) → eqb n 0 ≡ false → 1 ≤ n
+not-none n e = omega (arith, eqb-false n 0 e)
 
 -- a lawful word with so many operands still due, none with C
 pub record Open (w : ℕ) (c : Command) (left : ℕ) (t : Operands) (o : Word) : Type 0 where

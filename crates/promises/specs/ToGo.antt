@@ -27,8 +27,8 @@ use Rattle.plan.specs.declared.Plan.{Plan}
 use Rattle.plan.specs.declared.Plan.the-variants.{Hold, Reject, Release, Work}
 use Rattle.plan.specs.Plan.{carriesC, addressIn, valueIn, withOperand, ready, waitsOf, collected, continued}
 use Rattle.port.specs.Packets.{placeBy}
-use Rattle.promises.specs.Fits.{PhaseFits}
-use Rattle.promises.specs.PlanFits.{by-test}
+use Rattle.port.specs.Sound.{PhaseWithin}
+use Rattle.port.specs.SoundPlan.{either}
 
 -- the packets that carry out an upper result word: one where there are two words
 abbrev pub uppers : Command → ℕ
@@ -66,18 +66,18 @@ four-at-most Rdmreg = omega arith
 four-at-most (Wdmreg r) = omega arith
 
 waits-at-most : (w : ℕ) (c : Command) → waitsOf w c ≤ w
-waits-at-most w c = by-test (λ (n : ℕ). n ≤ w) (waits c) w 0 (λ e. le-refl w) (λ e. zero-le)
+waits-at-most w c = either (λ (n : ℕ). n ≤ w) (waits c) w 0 (λ e. le-refl w) (λ e. zero-le)
 
-pub to-go-at-most : (w : ℕ) (phase : Phase) → PhaseFits w phase → toGo w phase ≤ 4 + w
+pub to-go-at-most : (w : ℕ) (phase : Phase) → PhaseWithin w phase → toGo w phase ≤ 4 + w
 to-go-at-most w Rest h = zero-le
-to-go-at-most w (Due c left t) h = omega (arith, h .atMost, four-at-most c, waits-at-most w c)
-to-go-at-most w (Waiting c left address value) h = omega (arith, h .1 .atMost, four-at-most c)
+to-go-at-most w (Due c left t) h = omega (arith, h .1, four-at-most c, waits-at-most w c)
+to-go-at-most w (Waiting c left address value) h = omega (arith, h .1, four-at-most c)
 to-go-at-most w (Low low) h = omega arith
 
-pub none-to-go : (w : ℕ) (phase : Phase) → PhaseFits w phase → toGo w phase ≤ 0 → phase ≡ Rest
+pub none-to-go : (w : ℕ) (phase : Phase) → PhaseWithin w phase → toGo w phase ≤ 0 → phase ≡ Rest
 none-to-go w Rest h l = refl
-none-to-go w (Due c left t) h l = absurd (omega (arith, h .some))
-none-to-go w (Waiting c left address value) h l = absurd (omega (arith, h .1 .some))
+none-to-go w (Due c left t) h l = absurd (omega (arith, h .0))
+none-to-go w (Waiting c left address value) h l = absurd (omega (arith, h .0))
 none-to-go w (Low low) h l = absurd (omega arith)
 
 -- what the work leaves to go: the upper result word, where there are two
@@ -117,39 +117,39 @@ work-to-go w Rdmreg b m pointer address = le-refl _
 work-to-go w (Wdmreg r) b m pointer address = zero-le
 
 -- a plan that leaves at most n to go
-abbrev pub PlanWithin : ℕ → ℕ → Plan → Type 0
-PlanWithin w n (Hold phase) = toGo w phase ≤ n
-PlanWithin w n Reject = Unit {0}
-PlanWithin w n (Release low) = Unit {0}
-PlanWithin w n (Work c address value) = uppers c ≤ n
+abbrev pub PlanLeaves : ℕ → ℕ → Plan → Type 0
+PlanLeaves w n (Hold phase) = toGo w phase ≤ n
+PlanLeaves w n Reject = Unit {0}
+PlanLeaves w n (Release low) = Unit {0}
+PlanLeaves w n (Work c address value) = uppers c ≤ n
 
-pub within-more : (w n more : ℕ) (plan : Plan) → n ≤ more → PlanWithin w n plan → PlanWithin w more plan
-within-more w n more (Hold phase) l h = omega arith
-within-more w n more Reject l h = tt
-within-more w n more (Release low) l h = tt
-within-more w n more (Work c address value) l h = omega arith
+pub leaves-more : (w n more : ℕ) (plan : Plan) → n ≤ more → PlanLeaves w n plan → PlanLeaves w more plan
+leaves-more w n more (Hold phase) l h = omega arith
+leaves-more w n more Reject l h = tt
+leaves-more w n more (Release low) l h = tt
+leaves-more w n more (Work c address value) l h = omega arith
 
-pub place-within : (w n : ℕ) (plan : Plan) (b : Board) (p : Place) (m : List ℕ) → PlanWithin w n plan → toGo w (placeBy plan b p m .phase) ≤ n
-place-within w n (Hold phase) b p m h = h
-place-within w n Reject b p m h = zero-le
-place-within w n (Release low) b p m h = zero-le
-place-within w n (Work c address value) b p m h = omega (arith, work-to-go w c b m (p .pointer) address)
+pub place-leaves : (w n : ℕ) (plan : Plan) (b : Board) (p : Place) (m : List ℕ) → PlanLeaves w n plan → toGo w (placeBy plan b p m .phase) ≤ n
+place-leaves w n (Hold phase) b p m h = h
+place-leaves w n Reject b p m h = zero-le
+place-leaves w n (Release low) b p m h = zero-le
+place-leaves w n (Work c address value) b p m h = omega (arith, work-to-go w c b m (p .pointer) address)
 
-pub ready-within : (w left : ℕ) (c : Command) (address value : ℕ) → PlanWithin w (left + uppers c) (ready left c address value)
+pub ready-leaves : (w left : ℕ) (c : Command) (address value : ℕ) → PlanLeaves w (left + uppers c) (ready left c address value)
 unfolding ready
-ready-within w left c address value =
-    by-test (PlanWithin w (left + uppers c)) (eqb left 0) (Work c address value) (Hold (Waiting c left address value)) (λ e. omega arith) (λ e. le-refl _)
+ready-leaves w left c address value =
+    either (PlanLeaves w (left + uppers c)) (eqb left 0) (Work c address value) (Hold (Waiting c left address value)) (λ e. omega arith) (λ e. le-refl _)
 
-collected-within : (w left : ℕ) (c : Command) (t : Operands) → PlanWithin w (left + waitsOf w c + uppers c) (collected w left c t)
+collected-leaves : (w left : ℕ) (c : Command) (t : Operands) → PlanLeaves w (left + waitsOf w c + uppers c) (collected w left c t)
 unfolding collected
-collected-within w left c t =
-    by-test (PlanWithin w (left + waitsOf w c + uppers c)) (eqb left 0) (ready (waitsOf w c) c (addressIn (operandWords c) t) (valueIn (operandWords c) t)) (Hold (Due c left t))
-    (λ e. within-more w (waitsOf w c + uppers c) (left + waitsOf w c + uppers c) (ready (waitsOf w c) c (addressIn (operandWords c) t) (valueIn (operandWords c) t)) (omega arith)
-    (ready-within w (waitsOf w c) c (addressIn (operandWords c) t) (valueIn (operandWords c) t)))
+collected-leaves w left c t =
+    either (PlanLeaves w (left + waitsOf w c + uppers c)) (eqb left 0) (ready (waitsOf w c) c (addressIn (operandWords c) t) (valueIn (operandWords c) t)) (Hold (Due c left t))
+    (λ e. leaves-more w (waitsOf w c + uppers c) (left + waitsOf w c + uppers c) (ready (waitsOf w c) c (addressIn (operandWords c) t) (valueIn (operandWords c) t)) (omega arith)
+    (ready-leaves w (waitsOf w c) c (addressIn (operandWords c) t) (valueIn (operandWords c) t)))
     (λ e. le-refl _)
 
-pub continued-within : (c : Command) (left : ℕ) (t : Operands) (w word : ℕ) → PlanWithin w (left - 1 + waitsOf w c + uppers c) (continued c left t w word)
+pub continued-leaves : (c : Command) (left : ℕ) (t : Operands) (w word : ℕ) → PlanLeaves w (left - 1 + waitsOf w c + uppers c) (continued c left t w word)
 unfolding continued
-continued-within c left t w word =
-    by-test (PlanWithin w (left - 1 + waitsOf w c + uppers c)) (carriesC word) Reject (collected w (left - 1) c (withOperand t word))
-    (λ e. tt) (λ e. collected-within w (left - 1) c (withOperand t word))
+continued-leaves c left t w word =
+    either (PlanLeaves w (left - 1 + waitsOf w c + uppers c)) (carriesC word) Reject (collected w (left - 1) c (withOperand t word))
+    (λ e. tt) (λ e. collected-leaves w (left - 1) c (withOperand t word))
