@@ -25,9 +25,8 @@ use Rattle.promises.specs.Words.{Word, endingFound, ended, stage}
 use Rattle.promises.specs.Words.Stage.{upperDue, closed}
 use Rattle.promises.specs.Environment.{Found, begins, goesOn, showsUpper, heard}
 use Rattle.port.specs.SoundPlan.{either}
-use Rattle.promises.specs.StageLaws.{not-none}
+use Rattle.promises.specs.StageLaws.{not-none, Open, stage-due, stage-waiting, stage-ended, stage-shown, ending-held}
 use Rattle.promises.specs.OperandLaws.{held, held-end, any-c-end}
-use Rattle.promises.specs.StageLaws.{Open, stage-due, stage-waiting, stage-ended, stage-shown, ending-held}
 
 -- a word that waits, with so many packets still to wait and the address that the port holds
 pub record Waits (w : ℕ) (c : Command) (left address : ℕ) (o : Word) : Type 0 where

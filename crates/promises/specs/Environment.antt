@@ -1,6 +1,7 @@
 -- Demand 3 of one place in any environment: each of its packets finds whatever board and memory. With one place the environment is the
 -- events and breakpoint inputs between its packets and the memory lent with each; with several, the others' packets too.
-use Prim.Native.Nat.{ℕ, suc, _+_}
+use Prim.Native.Nat.{ℕ, suc, _+_, _≤_}
+use mathlib.Core.Path.{_≡_}
 use mathlib.Core.Bool.{Bool, true, false, cond}
 use mathlib.Core.List.{List, [], _∷_, _++_}
 use Rattle.board.specs.declared.Board.{Board}
@@ -8,6 +9,7 @@ use Rattle.board.specs.declared.Place.{Place}
 use Rattle.board.specs.declared.Phase.{Phase}
 use Rattle.board.specs.declared.Phase.the-variants.{Rest, Due, Waiting, Low}
 use Rattle.board.specs.Board.{freshPlace}
+use Rattle.port.specs.Sound.{SoundBoard, SoundMemory}
 use Rattle.promises.specs.Machine.{Machine}
 use Rattle.promises.specs.Words.{Word, Stage, stage}
 use Rattle.promises.specs.Words.Stage.{operandDue, waitDue, upperDue, closed}
@@ -123,3 +125,23 @@ handed k p (f ∷ fs) =
 unfoldable pub underWay : Machine → Place → List Found → ℕ
 underWay k p [] = 0
 underWay k p (f ∷ fs) = cond (isRest (p .phase)) 0 1 + underWay k (k .place (f .board) p (f .memory) (f .word)) fs
+
+-- a board made with W, its registers within their widths
+pub record BoardOf (w : ℕ) (b : Board) : Type 0 where
+  pub setting : b .w ≡ w
+  pub sound : SoundBoard b
+
+-- what a packet may find at a place on such a board: what every call keeps sound, and a word of 17 bits
+pub record FoundFits (w : ℕ) (f : Found) : Type 0 where
+  pub board : BoardOf w (f .board)
+  pub memory : SoundMemory (f .memory)
+  pub word : f .word ≤ 0x1FFFF
+
+pub data AllFit (w : ℕ) : List Found → Type 0 where
+  none : AllFit w []
+  more : {f : Found} {fs : List Found} → FoundFits w f → AllFit w fs → AllFit w (f ∷ fs)
+
+-- packets that are all NOPs, with whatever each may find
+pub data AllNops (w : ℕ) : List Found → Type 0 where
+  done : AllNops w []
+  nop : {fs : List Found} (b : Board) (m : List ℕ) → BoardOf w b → SoundMemory m → AllNops w fs → AllNops w (record { board = b; memory = m; word = 0 } ∷ fs)

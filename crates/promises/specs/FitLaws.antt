@@ -1,7 +1,7 @@
 -- The ranges of 12 are kept by every call on a board made with W, and a state that keeps them is not refused.
 use Prim.Native.Nat.{ℕ, _≤_}
-use mathlib.Core.Path.{_≡_, sym, _∙_, subst}
-use mathlib.Core.Bool.{true}
+use mathlib.Core.Path.{_≡_, refl, sym, _∙_, subst}
+use mathlib.Core.Bool.{Bool, true, false, _&&_}
 use mathlib.Core.List.{List}
 use lib.ListN.{length}
 use native.Mathlib.Omega.{arith}
@@ -11,11 +11,20 @@ use Rattle.board.specs.declared.Status.{Status}
 use Rattle.board.specs.declared.Place.{Place}
 use Rattle.board.specs.Ranges.{bstatInRange, inRange}
 use Rattle.registers.specs.Registers.{withStatus}
-use Rattle.port.specs.Packets.{placeNext, boardNext, packetVerdict}
+use Rattle.port.specs.Packets.{placeNext, boardNext, memoryNext, packetVerdict}
 use Rattle.port.specs.PacketLaws.{no-other}
 use Rattle.port.specs.Sound.{SoundPlace, SoundMemory}
-use Rattle.port.specs.SoundLaws.{packet-keeps-place, packet-keeps-board, packet-keeps-w, sound-is-in-range}
-use Rattle.promises.specs.Fits.{BoardOf}
+use Rattle.port.specs.SoundLaws.{packet-keeps-place, packet-keeps-board, packet-keeps-memory, packet-keeps-w, sound-is-in-range}
+use Rattle.promises.specs.Environment.{BoardOf}
+
+-- of two tests that hold
+pub first : (x y : Bool) → (x && y) ≡ true → x ≡ true
+first true y h = refl
+first false y h = h
+
+pub second : (x y : Bool) → (x && y) ≡ true → y ≡ true
+second true y h = h
+second false y h = let z : false ≡ true = h in cc
 
 module _ (w : ℕ) (b : Board) (p : Place) (board : BoardOf w b) (place : SoundPlace w p) where
   here : SoundPlace (b .w) p
@@ -26,6 +35,9 @@ module _ (w : ℕ) (b : Board) (p : Place) (board : BoardOf w b) (place : SoundP
 
   pub board-kept : (m : List ℕ) → SoundMemory m → (word : ℕ) → BoardOf w (boardNext b p word)
   board-kept m memory word = record { setting = packet-keeps-w b p word ∙ board .setting; sound = packet-keeps-board b p m (board .sound) here memory word }
+
+  pub memory-kept : (m : List ℕ) → SoundMemory m → (word : ℕ) → SoundMemory (memoryNext b p m word)
+  memory-kept m memory word = packet-keeps-memory b p m (board .sound) here memory word
 
   pub in-range : inRange b p ≡ true
   in-range = sound-is-in-range b p (board .sound) here

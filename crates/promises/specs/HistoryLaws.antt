@@ -19,13 +19,12 @@ use Rattle.port.specs.Packets.{packetVerdict, placeNext, unless}
 use Rattle.bus.specs.Events.{boardAfterEvent, boardAfterBreakpoint}
 use Rattle.bus.specs.EventLaws.{event-changes-status-alone, breakpoint-changes-status-alone, event-keeps-ranges, breakpoint-keeps-ranges}
 use Rattle.promises.specs.Machine.{State, standIn}
-use Rattle.promises.specs.Environment.{Found, Trail, noted, trail}
+use Rattle.promises.specs.Environment.{Found, Trail, noted, trail, BoardOf, AllFit}
 use Rattle.promises.specs.History.{Lent, Call, finding, taking, afterCall, after, foundBy, finds, made}
 use Rattle.promises.specs.History.Call.{packet, event, breakpoint}
 use Rattle.port.specs.Sound.{SoundPlace, SoundMemory}
 use Rattle.port.specs.SoundLaws.{fresh-board-is-sound, fresh-place-is-sound}
-use Rattle.promises.specs.Fits.{BoardOf, AllFit}
-use Rattle.promises.specs.Fits.AllFit.{none, more}
+use Rattle.promises.specs.Environment.AllFit.{none, more}
 use Rattle.promises.specs.FitLaws.{place-kept, board-kept, in-range, status-kept}
 
 pub record Sound (w : ℕ) (s : State) : Type 0 where

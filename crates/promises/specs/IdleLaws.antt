@@ -13,14 +13,13 @@ use Rattle.port.specs.Packets.{packetVerdict, replyNow, placeNext, boardNext, m
 use Rattle.bus.specs.Events.{boardAfterEvent, boardAfterBreakpoint}
 use Rattle.bus.specs.EventLaws.{event-changes-status-alone, breakpoint-changes-status-alone}
 use Rattle.promises.specs.Machine.{State, standIn}
-use Rattle.promises.specs.Environment.{isRest, Handed, handed, underWay}
+use Rattle.promises.specs.Environment.{isRest, Handed, handed, underWay, AllNops}
 use Rattle.promises.specs.History.{Lent, Call, taking, afterCall, after, finds, Idle, nops}
 use Rattle.promises.specs.History.Call.{packet, event, breakpoint}
 use Rattle.promises.specs.History.Idle.{none, nop, withEvent, withBreakpoint}
 use Rattle.promises.specs.Promises.{SameButStatus, Unmoved}
 use Rattle.port.specs.Sound.{SoundMemory}
-use Rattle.promises.specs.Fits.{AllNops}
-use Rattle.promises.specs.Fits.AllNops.{done}
+use Rattle.promises.specs.Environment.AllNops.{done}
 use Rattle.promises.specs.FitLaws.{nop-accepted}
 use Rattle.promises.specs.QuietLaws.{SameNop, same-nop}
 use Rattle.promises.specs.HistoryLaws.{Sound, sound-call, sound-packet}

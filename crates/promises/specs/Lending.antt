@@ -1,13 +1,14 @@
 -- Memory lent to a history: a list whose bytes are seen to be bytes.
 use Prim.Native.Nat.{ℕ, zero, suc}
-use mathlib.Core.Path.{_≡_, refl}
-use mathlib.Core.Bool.{Bool, true, false, _&&_}
+use mathlib.Core.Path.{_≡_}
+use mathlib.Core.Bool.{Bool, true, _&&_}
 use mathlib.Core.List.{List, [], _∷_, map}
 use lib.Dec.{ltb}
 use Rattle.memory.specs.MemoryLaws.{AllBelow}
 use native.Mathlib.Omega.{arith}
 use borrow.Author.Tests.{ltb-true}
 use Rattle.promises.specs.Machine.{State, standIn}
+use Rattle.promises.specs.FitLaws.{first, second}
 use Rattle.promises.specs.Environment.{Handed, handed}
 use Rattle.promises.specs.History.{Lent, Call, finds}
 use Rattle.promises.specs.History.Call.{packet}
@@ -15,14 +16,6 @@ use Rattle.promises.specs.History.Call.{packet}
 abbrev pub allBytes : List ℕ → Bool
 allBytes [] = true
 allBytes (x ∷ xs) = ltb x 256 && allBytes xs
-
-first : (x y : Bool) → (x && y) ≡ true → x ≡ true
-first true y h = refl
-first false y h = h
-
-second : (x y : Bool) → (x && y) ≡ true → y ≡ true
-second true y h = h
-second false y h = let z : false ≡ true = h in cc
 
 pub narrow : (xs : List ℕ) → allBytes xs ≡ true → AllBelow 256 xs
 narrow [] h i = omega arith

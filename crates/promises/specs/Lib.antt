@@ -2,7 +2,6 @@ pub mod Machine
 pub mod Words
 pub mod Environment
 pub mod History
-pub mod Fits
 pub mod Promises
 pub mod FitLaws
 pub mod ToGo
@@ -18,6 +17,7 @@ pub mod HistoryLaws
 pub mod IdleLaws
 pub mod NeverStranded
 pub mod Code
+pub mod Runs
 pub mod Lending
 pub mod ByEye
 pub mod Tight

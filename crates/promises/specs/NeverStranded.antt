@@ -6,11 +6,10 @@ use lib.ListN.{length}
 use native.Mathlib.Omega.{arith}
 use Rattle.board.specs.declared.Place.{Place}
 use Rattle.promises.specs.Machine.{State, standIn}
-use Rattle.promises.specs.Environment.{isRest, Trail, begun}
+use Rattle.promises.specs.Environment.{isRest, Trail, begun, AllFit, AllNops}
 use Rattle.promises.specs.History.{Lent, Call, after, finds, made, Idle}
 use Rattle.promises.specs.Promises.{PlaceRests, NopsBring, trailOf, NeverStranded, ClosingReplies, Demand3, PlaceDemand3}
 use Rattle.port.specs.Sound.{SoundPlace}
-use Rattle.promises.specs.Fits.{AllFit, AllNops}
 use Rattle.promises.specs.FitLaws.{in-range}
 use Rattle.promises.specs.PlaceClosing.{kept-from-fresh, place-closes}
 use Rattle.promises.specs.PlaceRest.{place-rests-from, place-rests}

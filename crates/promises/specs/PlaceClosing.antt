@@ -13,10 +13,9 @@ use Rattle.promises.specs.Machine.{standIn}
 use Rattle.promises.specs.Words.{Word, Stage, stage, closing, closingAt, replyAt, isClosed}
 use Rattle.promises.specs.Words.Closing.{reply}
 use Rattle.promises.specs.Words.Stage.{operandDue, waitDue, upperDue, closed}
-use Rattle.promises.specs.Environment.{Found, isRest, Trail, heardAt, heard, givenAt, givenBy, noted, trail, begun}
+use Rattle.promises.specs.Environment.{Found, isRest, Trail, heardAt, heard, givenAt, givenBy, noted, trail, begun, AllFit}
 use Rattle.promises.specs.Promises.{nextReply, lastClosed, earlier, PlaceCloses}
-use Rattle.promises.specs.Fits.{AllFit}
-use Rattle.promises.specs.Fits.AllFit.{none, more}
+use Rattle.promises.specs.Environment.AllFit.{none, more}
 use Rattle.promises.specs.OperandLaws.{held}
 use Rattle.promises.specs.StageLaws.{stage-due, stage-waiting}
 use Rattle.promises.specs.ClosingLaws.{Tells, PlaceTells, tells-next}

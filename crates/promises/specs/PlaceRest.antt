@@ -12,13 +12,12 @@ use Rattle.port.specs.Packets.{placeNext}
 use Rattle.promises.specs.Machine.{standIn}
 use Rattle.promises.specs.Words.{Word, Stage, stage, isClosed}
 use Rattle.promises.specs.Words.Stage.{operandDue, waitDue, upperDue, closed}
-use Rattle.promises.specs.Environment.{Found, isRest, Trail, heardAt, heard, noted, trail, begun, underWay}
+use Rattle.promises.specs.Environment.{Found, isRest, Trail, heardAt, heard, noted, trail, begun, underWay, AllFit, AllNops}
 use Rattle.promises.specs.Promises.{lastClosed, PlaceRests}
 use Rattle.port.specs.Sound.{PhaseWithin, SoundPlace}
 use Rattle.port.specs.SoundLaws.{fresh-place-is-sound}
-use Rattle.promises.specs.Fits.{AllFit, AllNops}
-use Rattle.promises.specs.Fits.AllFit.{none, more}
-use Rattle.promises.specs.Fits.AllNops.{done, nop}
+use Rattle.promises.specs.Environment.AllFit.{none, more}
+use Rattle.promises.specs.Environment.AllNops.{done, nop}
 use Rattle.promises.specs.FitLaws.{place-kept}
 use Rattle.promises.specs.ToGo.{toGo, to-go-at-most, none-to-go}
 use Rattle.promises.specs.NopLaws.{nop-takes-one-off}

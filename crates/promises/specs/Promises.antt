@@ -9,8 +9,7 @@ use Rattle.board.specs.Ranges.{inRange}
 use Rattle.promises.specs.Machine.{State, Machine}
 use Rattle.promises.specs.Words.{Word, stage, closing, replyAt, isClosed}
 use Rattle.promises.specs.Words.Closing.{reply}
-use Rattle.promises.specs.Environment.{Found, isRest, Trail, trail, begun, handed, underWay}
-use Rattle.promises.specs.Fits.{AllFit, AllNops}
+use Rattle.promises.specs.Environment.{Found, isRest, Trail, trail, begun, handed, underWay, AllFit, AllNops}
 use Rattle.promises.specs.History.{Lent, Call, after, finds, made, Idle, nops}
 
 -- the reply that the rules give next: for the last word, or on a fresh board "next reply 0x0FFFF"
@@ -49,8 +48,11 @@ pub record PlaceRests (k : Machine) (w : ℕ) (t : Trail) (fs : List Found) : Ty
 
 -- two boards that agree in all but halted, the flags, BSTAT and a pending SYNC_PC
 pub record SameButStatus (a b : Board) : Type 0 where
+  -- The same W,
   pub setting : a .w ≡ b .w
+  -- the same general and control registers,
   pub registers : a .registers ≡ b .registers
+  -- and the same debug registers.
   pub debug : a .debug ≡ b .debug
 
 -- NOPs with events and breakpoint inputs between them, against the same NOPs in a row.
@@ -95,10 +97,14 @@ pub record ClosingReplies (k : Machine) (w : ℕ) (history : List Call) : Type 0
 
 -- DEMAND 3: of any list of calls on a fresh board with any W from 0 to 15.
 pub record Demand3 (k : Machine) : Type 0 where
+  -- None strands the port.
   pub rest : (w : ℕ) → w ≤ 15 → (history : List Call) → NeverStranded k w history
+  -- Each command word of each gets its closing reply.
   pub closing : (w : ℕ) → w ≤ 15 → (history : List Call) → ClosingReplies k w history
 
 -- DEMAND 3, place by place: of a place whose packets find any boards of one W and any memory within the limit.
 pub record PlaceDemand3 (k : Machine) : Type 0 where
+  -- NOPs bring it to rest, whatever the packets before and each NOP find.
   pub rest : (w : ℕ) (before idle : List Found) → AllFit w before → AllNops w idle → PlaceRests k w (trail k begun before) idle
+  -- Each of its command words gets its closing reply.
   pub closing : (w : ℕ) (before : List Found) → AllFit w before → PlaceCloses k (trail k begun before)

@@ -19,10 +19,9 @@ use Rattle.port.specs.Packets.{planFor, replyNow, placeNext, boardNext, packetV
 use Rattle.promises.specs.Machine.{state, Machine, standIn}
 use Rattle.promises.specs.Words.{stage, closing}
 use Rattle.promises.specs.Words.Closing.{reply}
-use Rattle.promises.specs.Environment.{Found, isRest, trail}
+use Rattle.promises.specs.Environment.{Found, isRest, trail, AllFit, AllNops}
 use Rattle.promises.specs.History.{Call, after, finds, made, Idle}
 use Rattle.promises.specs.History.Call.{event}
-use Rattle.promises.specs.Fits.{AllFit, AllNops}
 use Rattle.port.specs.Sound.{SoundMemory}
 use Rattle.promises.specs.Promises.{Demand3, PlaceDemand3}
 use Rattle.promises.specs.HistoryLaws.{fresh-sound}
