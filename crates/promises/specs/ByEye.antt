@@ -27,14 +27,11 @@ use Rattle.promises.specs.Machine.{State, standIn}
 use Rattle.promises.specs.Environment.{handed}
 use Rattle.promises.specs.History.{Lent, Call, after, finds, made}
 use Rattle.promises.specs.History.Call.{event}
-use Rattle.promises.specs.Lending.{lent, sends, replies}
+use Rattle.promises.specs.Lending.{lent, noMemory, sends, replies}
 
 -- memory 00 to 0F
 abbrev pub sixteen : Lent
 sixteen = lent (0 ∷ 1 ∷ 2 ∷ 3 ∷ 4 ∷ 5 ∷ 6 ∷ 7 ∷ 8 ∷ 9 ∷ 10 ∷ 11 ∷ 12 ∷ 13 ∷ 14 ∷ 15 ∷ []) refl
-
-abbrev pub noMemory : Lent
-noMemory = lent [] refl
 
 -- the replies on a fresh board
 abbrev pub onFresh : ℕ → Lent → List ℕ → List ℕ

@@ -1,6 +1,6 @@
 -- Memory lent to a history: a list whose bytes are seen to be bytes.
 use Prim.Native.Nat.{ℕ, zero, suc}
-use mathlib.Core.Path.{_≡_}
+use mathlib.Core.Path.{_≡_, refl}
 use mathlib.Core.Bool.{Bool, true, _&&_}
 use mathlib.Core.List.{List, [], _∷_, map}
 use lib.Dec.{ltb}
@@ -24,6 +24,9 @@ narrow (x ∷ xs) h (suc i) = narrow xs (second (ltb x 256) (allBytes xs) h) i
 
 abbrev pub lent : (xs : List ℕ) → allBytes xs ≡ true → Lent
 lent xs h = record { bytes = xs; narrow = narrow xs h }
+
+abbrev pub noMemory : Lent
+noMemory = lent [] refl
 
 -- words sent one after another, each lent the same memory
 abbrev pub sends : Lent → List ℕ → List Call

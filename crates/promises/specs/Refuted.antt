@@ -1,6 +1,6 @@
 -- Demand 3 cannot be met trivially: said of a machine that breaks a rule it is false.
 use Prim.Native.Nat.{ℕ, zero, suc, _-_, _≤_}
-use mathlib.Core.Path.{_≡_, refl, sym, ap, _∙_}
+use mathlib.Core.Path.{_≡_, sym, ap, _∙_}
 use mathlib.Core.Bool.{Bool, true, false, cond, _&&_, true≢false}
 use mathlib.Core.List.{List, [], _∷_}
 use lib.ListN.{replicate}
@@ -25,7 +25,7 @@ use Rattle.promises.specs.History.Call.{event}
 use Rattle.port.specs.Sound.{SoundMemory}
 use Rattle.promises.specs.Promises.{Demand3, PlaceDemand3}
 use Rattle.promises.specs.HistoryLaws.{fresh-sound}
-use Rattle.promises.specs.Lending.{lent, sends}
+use Rattle.promises.specs.Lending.{noMemory, sends}
 
 -- a packet on a fresh board of W = 2, with no memory
 abbrev onFresh : ℕ → Found
@@ -91,7 +91,7 @@ abbrev pub early : (Phase → Phase) → Machine
 early hasty = withStep (λ b p m word. placeNext b (inPhase p (hasty (p .phase))) m word)
 
 abbrev history : List ℕ → List Call
-history words = sends (lent [] refl) words
+history words = sends noMemory words
 
 -- WDMREG CSR with one operand of two
 pub operand-early : Demand3 (early hastyOperand) → ⊥

@@ -12,11 +12,8 @@ use Rattle.plan.specs.Plan.{ready, collected, begun, continued}
 use Rattle.port.specs.Packets.{planFor, placeNext, boardNext, packetVerdict}
 use Rattle.promises.specs.Machine.{State, standIn}
 use Rattle.promises.specs.Environment.{isRest, underWay}
-use Rattle.promises.specs.History.{Lent, after, finds, made, nops}
-use Rattle.promises.specs.Lending.{lent, sends}
-
-abbrev noMemory : Lent
-noMemory = lent [] refl
+use Rattle.promises.specs.History.{after, finds, made, nops}
+use Rattle.promises.specs.Lending.{noMemory, sends}
 
 -- the history of one packet, WCREG's command word
 abbrev pub asked : ℕ → State
