@@ -1,0 +1,39 @@
+use mathlib.Core.Path.{_∙_}
+use native.Mathlib.Omega.{arith}
+use Rattle.exchange.specs.ConverseLaws.{rested-is-at-rest, conversed}
+use borrow.Author.Needs.{needs}
+use Rattle.exchange.proofs.rest_and_converse.Statement.{statement}
+use Rattle.exchange.proofs.rest_and_converse.Tie as tie
+
+bring-to-rest-requires : tie.Need-bring-to-rest-requires
+bring-to-rest-requires c κs = search needs
+
+converse-requires : tie.Need-converse-requires
+converse-requires c κs = let rest = rested-is-at-rest (c .before .before .before .before .before .before .before .before .pre .0) (c .before .before .before .before .before .bring-to-rest .ensures .0) in (rest .fit, c .before .before .before .before .before .before .before .before .pre .1, rest .rest)
+
+cast-answer-of : tie.Need-cast-answer-of
+cast-answer-of c = omega (arith, conversed (c .before .before .before .before .before .before .before .before .before .before .before .before .before .before .pre .0) (c .before .before .before .before .before .before .before .before .before .before .before .before .before .before .pre .1) (c .before .before .before .before .before .before .before .before .before .before .before .bring-to-rest .ensures .0) (c .before .before .before .before .before .before .before .before .before .before .before .bring-to-rest .ensures .1) (c .before .before .before .before .before .converse .ensures) .few)
+
+add-answer-of : tie.Need-add-answer-of
+add-answer-of c = let met = conversed (c .before .before .before .before .before .before .before .before .before .before .before .before .before .before .before .pre .0) (c .before .before .before .before .before .before .before .before .before .before .before .before .before .before .before .pre .1) (c .before .before .before .before .before .before .before .before .before .before .before .before .bring-to-rest .ensures .0) (c .before .before .before .before .before .before .before .before .before .before .before .before .bring-to-rest .ensures .1) (c .before .before .before .before .before .before .converse .ensures) in omega (arith, met .few, met .fewNops)
+
+answer-of-requires : tie.Need-answer-of-requires
+answer-of-requires c κs = search needs
+
+same-length : tie.Need-same-length
+same-length c = search needs
+
+returns : tie.Need-returns
+returns c = let met = conversed (c .before .before .before .before .before .before .before .before .before .before .before .before .before .before .before .before .pre .0) (c .before .before .before .before .before .before .before .before .before .before .before .before .before .before .before .before .pre .1) (c .before .before .before .before .before .before .before .before .before .before .before .before .before .bring-to-rest .ensures .0) (c .before .before .before .before .before .before .before .before .before .before .before .before .before .bring-to-rest .ensures .1) (c .before .before .before .before .before .before .before .converse .ensures) in (c .answer-of .ensures ∙ met .answer, met .state)
+
+pub rest-and-converse-spec : {M : Type 1} → statement M
+rest-and-converse-spec =
+    tie.close
+    (tie.spec
+    bring-to-rest-requires
+    converse-requires
+    cast-answer-of
+    add-answer-of
+    answer-of-requires
+    same-length
+    returns)

@@ -1,0 +1,68 @@
+use Prim.Native.Nat.{_+_, _-_}
+use mathlib.Core.Path.{_≡_, refl, sym, ap, _∙_}
+use native.Mathlib.Omega.{arith}
+use borrow.Author.Needs.{needs}
+use lib.ListN.{length}
+use Rattle.port.specs.Run.{stateOf, stepped}
+use Rattle.trip.specs.Exchange.{talkBudget}
+use Rattle.trip.specs.Underway.{TalkUnderway, talk-begins, talk-goes-on, talk-is-closed, sent-clear}
+use Rattle.exchange.specs.SendLaws.{not-so, so-after-all}
+use Rattle.exchange.proofs.talk.read_on.Statement.{statement}
+use Rattle.exchange.proofs.talk.read_on.Tie as tie
+
+abbrev Inv-loop : tie.InvT-loop
+Inv-loop request words memory₀ reader₀ packets₀ b₀ p₀ memory reader packets b p = (length memory ≡ length memory₀) × TalkUnderway request packets reader (stateOf b p memory) (stateOf b₀ p₀ memory₀)
+
+abbrev μ-loop : tie.MeasureT-loop
+μ-loop request words memory₀ reader₀ packets₀ b₀ p₀ memory reader packets b p = talkBudget + 1 - packets
+
+loop-holds : tie.Need-loop-holds Inv-loop μ-loop
+loop-holds c = (refl, talk-begins (c .before .before .pre .0) (c .before .before .pre .2))
+
+is-done-requires : tie.Need-is-done-requires Inv-loop μ-loop
+is-done-requires c κs = search needs
+
+word-at-requires : tie.Need-word-at-requires Inv-loop μ-loop
+word-at-requires c κs = search needs
+
+send-requires : tie.Need-send-requires Inv-loop μ-loop
+send-requires c κs = (c .before .before .before .before .loop .inv .1 .fit, rw (c .before .word-at .ensures ∙ c .before .before .before .before .before .before .before .pre .3 (c .before .before .before .before .loop .packets)) (sent-clear (c .before .before .before .before .before .before .before .args .request) (c .before .before .before .before .loop .packets) (c .before .before .before .before .before .before .before .pre .1)))
+
+kind-of-requires : tie.Need-kind-of-requires Inv-loop μ-loop
+kind-of-requires c κs = search needs
+
+feed-requires : tie.Need-feed-requires Inv-loop μ-loop
+feed-requires c κs = search needs
+
+add-packets : tie.Need-add-packets Inv-loop μ-loop
+add-packets c = omega (arith, c .before .before .before .before .before .before .before .before .before .before .before .loop .inv .1 .within)
+
+loop-less : tie.Need-loop-less Inv-loop μ-loop
+loop-less c = omega (arith, talk-goes-on (c .before .before .before .before .before .before .before .before .before .before .before .loop .inv .1) (sym (c .before .before .before .before .before .before .before .before .before .before .is-done .ensures) ∙ not-so _ (c .before .before .before .before .before .before .before .before .before .if1 .taken)) .within)
+
+loop-again : tie.Need-loop-again Inv-loop μ-loop
+loop-again c = let at = c .before .before .before .before .before .before .before .before .before .before .before .loop in let fed-so = rw (c .before .before .before .kind-of .ensures, c .before .before .before .before .before .before .send .ensures .0) at (c .before .before .feed .ensures) in let stepped-so = c .before .before .before .before .before .before .send .ensures .1 ∙ ap (stepped (stateOf (at .b) (at .p) (at .memory))) (c .before .before .before .before .before .before .before .before .word-at .ensures ∙ c .before .before .before .before .before .before .before .before .before .before .before .before .before .before .pre .3 (c .before .before .before .before .before .before .before .before .before .before .before .loop .packets)) in (c .before .before .before .before .before .before .send .kept .1 .1 .0 ∙ at .inv .0, rw (fed-so, stepped-so) (talk-goes-on (at .inv .1) (sym (c .before .before .before .before .before .before .before .before .before .before .is-done .ensures) ∙ not-so _ (c .before .before .before .before .before .before .before .before .before .if1 .taken))))
+
+same-length : tie.Need-same-length Inv-loop μ-loop
+same-length c = c .before .before .loop .inv .0
+
+returns : tie.Need-returns Inv-loop μ-loop
+returns c = talk-is-closed (c .before .before .loop .inv .1) (sym (c .before .is-done .ensures) ∙ so-after-all _ (c .if1 .left))
+
+pub read-on-spec : {M : Type 1} → statement M
+read-on-spec =
+    tie.close
+    (tie.spec
+    Inv-loop
+    μ-loop
+    loop-holds
+    is-done-requires
+    word-at-requires
+    send-requires
+    kind-of-requires
+    feed-requires
+    add-packets
+    loop-less
+    loop-again
+    same-length
+    returns)

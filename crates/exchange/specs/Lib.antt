@@ -1,0 +1,5 @@
+pub mod Exchange
+pub mod Typed
+pub mod Promise
+pub mod SendLaws
+pub mod ConverseLaws

@@ -1,0 +1,67 @@
+-- Laws of sending: no packet of an exchange is refused, and the words in the buffer are those built.
+use Prim.Native.Nat.{ℕ, zero, suc, _≤_}
+use native.Mathlib.Omega.{arith}
+use mathlib.Core.Path.{_≡_, refl, ap, _∙_}
+use mathlib.Core.Bool.{Bool, true, false, not}
+use mathlib.Core.List.{List, [], _∷_, _++_}
+use lib.ListN.{length, getD, drop, replicate}
+use borrow.Author.Tests.{le-leb}
+use Rattle.board.specs.declared.Board.{Board}
+use Rattle.board.specs.declared.Place.{Place}
+use Rattle.port.specs.declared.Answer.{Answer}
+use Rattle.port.specs.Packets.{replyNow, said}
+use Rattle.port.specs.Promise.{PacketMeets}
+use Rattle.port.specs.PacketLaws.{accepted-takes-its-step, no-other}
+use Rattle.port.specs.Run.{stateOf, stepped}
+use Rattle.port.specs.RunLaws.{stepped-by}
+use Rattle.requests.specs.declared.Request.{Request}
+use Rattle.requests.specs.declared.Built.{Built}
+use Rattle.requests.specs.Request.{inRange}
+use Rattle.requests.specs.Words.{builtWords}
+use Rattle.requests.specs.CountLaws.{word-count-bound}
+use Rattle.requests.specs.Building.{BuildingMeets}
+use Rattle.trip.specs.FitLaws.{Fit, fit-is-in-range}
+
+pub record Sending (b : Board) (p : Place) (m : List ℕ) (word : ℕ) (r : Answer) (after : List ℕ) : Type 0 where
+  pub unrefused : said (r .outcome) .refusal .number ≡ 0
+  pub reply : said (r .outcome) .reply ≡ replyNow p
+  pub state : stateOf (r .board) (r .place) after ≡ stepped (stateOf b p m) word
+
+-- a word with C clear, from a state within all ranges
+pub fit-is-sent : {b : Board} {p : Place} {m : List ℕ} {word : ℕ} {r : Answer} {after : List ℕ} → Fit (stateOf b p m) → word ≤ 0xFFFF → PacketMeets b p m word r after → Sending b p m word r after
+fit-is-sent {b} {p} {m} {word} f clear met =
+    let step = accepted-takes-its-step met (no-other b p m word (fit-is-in-range f) (f .memory .limit) (omega arith)) in
+    record { unrefused = step .unrefused; reply = step .reply; state = stepped-by b p m word (step .board) (step .place) (step .memory) }
+
+-- ---- a test turned round
+pub not-so : (t : Bool) → not t ≡ true → t ≡ false
+not-so true h = cc
+not-so false h = refl
+
+pub so-after-all : (t : Bool) → not t ≡ false → t ≡ true
+so-after-all true h = refl
+so-after-all false h = cc
+
+-- ---- the buffer
+zeros : (n i : ℕ) → _≡_ {A = ℕ} (getD (replicate n 0) i 0) 0
+zeros zero i = refl
+zeros (suc n) zero = refl
+zeros (suc n) (suc i) = zeros n i
+
+zeros-from : (k n i : ℕ) → _≡_ {A = ℕ} (getD (drop k (replicate n 0)) i 0) 0
+zeros-from zero n i = zeros n i
+zeros-from (suc k) zero i = refl
+zeros-from (suc k) (suc n) i = zeros-from k n i
+
+padded : (xs ys : List ℕ) (i : ℕ) → ((j : ℕ) → getD ys j 0 ≡ 0) → getD (xs ++ ys) i 0 ≡ getD xs i 0
+padded [] ys i h = h i
+padded (x ∷ xs) ys zero h = refl
+padded (x ∷ xs) ys (suc i) h = padded xs ys i h
+
+-- five words of zero, built into, hold the request's words and then NOPs
+pub built-then-nops : {request : Request} {r : Built} {after : List ℕ} → BuildingMeets request (replicate 5 0) r after → inRange request ≡ true
+    → (i : ℕ) → getD after i 0 ≡ getD (builtWords request) i 0
+built-then-nops {request} m h i =
+    let room = le-leb (length (builtWords request)) 5 (word-count-bound request) in
+    ap (λ (l : List ℕ). getD l i 0) (m .buffer)
+    ∙ rw (h, room) (padded (builtWords request) (drop (length (builtWords request)) (replicate 5 0)) i (zeros-from (length (builtWords request)) 5))

@@ -1,0 +1,68 @@
+-- What the types of a board, a place and lent memory give, beyond the ranges of ground 12.
+use Prim.Native.Nat.{ℕ, _^_, _≤_, _<_}
+use mathlib.Core.Path.{_≡_}
+use mathlib.Core.Bool.{Bool, true, _&&_}
+use mathlib.Core.List.{List}
+use lib.Dec.{leb}
+use lib.ListN.{length}
+use borrow.Author.Tests.{leb-true}
+use Rattle.memory.specs.MemoryLaws.{AllBelow}
+use Rattle.command.specs.Command.{operandWords, waits}
+use Rattle.board.specs.declared.Board.{Board}
+use Rattle.board.specs.declared.Place.{Place}
+use Rattle.board.specs.declared.Phase.{Phase}
+use Rattle.board.specs.declared.Phase.the-variants.{Rest, Due, Waiting, Low}
+use Rattle.board.specs.Ranges.{phaseInRange, bstatInRange, inRange}
+use Rattle.port.specs.Run.{stateOf}
+use Rattle.port.specs.Sound.{OperandsWithin, PhaseWithin}
+use Rattle.requests.specs.WordLaws.{and-left, and-right}
+use Rattle.trip.specs.FitLaws.{Fit}
+
+-- operand words of 16 bits, addresses and data of 32
+abbrev pub PhaseTyped : Phase → Type 0
+PhaseTyped Rest = Unit {0}
+PhaseTyped (Due c left t) = OperandsWithin t
+PhaseTyped (Waiting c left address value) = (address < 2 ^ 32) × (value < 2 ^ 32)
+PhaseTyped (Low low) = low < 2 ^ 16
+
+pub record Typed (b : Board) (p : Place) (m : List ℕ) : Type 0 where
+  pub general : AllBelow (2 ^ 32) (b .registers .general)
+  pub control : AllBelow (2 ^ 32) (b .registers .control)
+  pub csr : b .debug .csr < 2 ^ 32
+  pub phase : PhaseTyped (p .phase)
+  pub bytes : AllBelow 256 m
+
+phase-fits : (w : ℕ) (phase : Phase) → phaseInRange w phase ≡ true → PhaseTyped phase → PhaseWithin w phase
+phase-fits w Rest h t = tt
+phase-fits w (Due c left o) h t = (leb-true 1 left (and-left (leb 1 left) (leb left (operandWords c)) h), leb-true left (operandWords c) (and-right (leb 1 left) (leb left (operandWords c)) h), t)
+phase-fits w (Waiting c left a v) h t =
+    let lefts = and-left (leb 1 left && leb left w) (waits c) h in
+    (leb-true 1 left (and-left (leb 1 left) (leb left w) lefts), leb-true left w (and-right (leb 1 left) (leb left w) lefts), and-right (leb 1 left && leb left w) (waits c) h, t .0, t .1)
+phase-fits w (Low low) h t = t
+
+-- with the ranges of 12 and of 3, all that a packet needs
+pub typed-is-fit : {b : Board} {p : Place} {m : List ℕ} → Typed b p m → inRange b p ≡ true → length m ≤ 65536 → Fit (stateOf b p m)
+unfolding inRange
+typed-is-fit {b} {p} {m} t h limit =
+    let setting : Bool = leb (b .w) 15 in
+    let phase : Bool = phaseInRange (b .w) (p .phase) in
+    let next : Bool = leb (p .next) 0x1FFFF in
+    let bstat : Bool = bstatInRange (b .status .bstat) in
+    let pointer : Bool = leb (p .pointer) 65536 in
+    let four = and-left (setting && phase && next && bstat) pointer h in
+    let three = and-left (setting && phase && next) bstat four in
+    let two = and-left (setting && phase) next three in
+    record {
+      setting = leb-true (b .w) 15 (and-left setting phase two);
+      bstat = and-right (setting && phase && next) bstat four;
+      general = t .general;
+      control = t .control;
+      csr = t .csr;
+      place =
+          record {
+            phase = phase-fits (b .w) (p .phase) (and-right setting phase two) (t .phase);
+            next = leb-true (p .next) 0x1FFFF (and-right (setting && phase) next three);
+            pointer = leb-true (p .pointer) 65536 (and-right (setting && phase && next && bstat) pointer h);
+          };
+      memory = record { limit = limit; bytes = t .bytes };
+    }

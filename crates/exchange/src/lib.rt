@@ -1,0 +1,114 @@
+// The exchange (01, "Packets" and the pod's half): a request, a board and lent memory in; its outcome and the packets sent out.
+ghost use mathlib.Core.Path.{_≡_};
+ghost use mathlib.Core.Bool.{true};
+ghost use Prim.Native.Nat.{_+_};
+ghost use Rattle.port.specs.Run.{stateOf};
+ghost use Rattle.requests.specs.Request.{inRange};
+ghost use Rattle.trip.specs.Exchange.{outcomeThere, stateThere, packetsThere};
+ghost use Rattle.trip.specs.FitLaws.{Fit};
+ghost use Rattle.exchange.specs.declared.Exchanged.the-variants.{Ended};
+ghost use Rattle.exchange.specs.Exchange.{answerOf, exchangeVerdict};
+ghost use Rattle.exchange.specs.Typed.{PhaseTyped, Typed};
+ghost use Rattle.exchange.specs.Promise.{restScene, restPackets, ExchangeMeets};
+use board::Board;
+use board::Phase;
+use board::Place;
+use grounds::Ground;
+use grounds::Verdict;
+use requests::Outcome;
+use requests::Reader;
+use requests::Request;
+
+mod talk;
+
+// How an exchange ends: with the request's outcome and the packets sent, or refused with none sent.
+pub enum Exchanged {
+    Ended(Outcome, u32),
+    Refused(Ground),
+}
+
+pub struct Returned {
+    pub answer: Exchanged,
+    pub board: Board,
+    pub place: Place,
+}
+
+fn answer_of(reader: Reader, packets: u32) -> Exchanged
+    ensures { λ r. ⌜ r ≡ answerOf reader packets ⌝ }
+{
+    match reader {
+        Reader::First => Exchanged::Refused(Ground::ImpossibleReply),
+        Reader::Second(_) => Exchanged::Refused(Ground::ImpossibleReply),
+        Reader::Closed(outcome) => Exchanged::Ended(outcome, packets),
+        Reader::Bad(ground) => Exchanged::Refused(ground),
+    }
+}
+
+fn rest_and_converse(request: Request, board: Board, place: Place, memory: &mut [u8]) -> Returned
+    requires { ⌜ Fit (stateOf board place (now memory)) × (inRange request ≡ true) ⌝ }
+    ensures { λ r. ⌜ (r .answer ≡ Ended (outcomeThere request (restScene board place (now (memory .entry)))) (restPackets board place (now (memory .entry)) + packetsThere request (restScene board place (now (memory .entry))))) × (stateOf (r .board) (r .place) (now (memory .exit)) ≡ stateThere request (restScene board place (now (memory .entry)))) ⌝ }
+{
+    let rested = talk::bring_to_rest(board, place, memory);
+    let rest_board = rested.board;
+    let rest_place = rested.place;
+    let talked = talk::converse(request, rest_board, rest_place, memory);
+    let reader = talked.reader;
+    let board_next = talked.board;
+    let place_next = talked.place;
+    Returned {
+        answer: answer_of(reader, rested.nops + talked.packets as u32),
+        board: board_next,
+        place: place_next,
+    }
+}
+
+fn note_phase(phase: Phase)
+    ensures { λ _. ⌜ PhaseTyped phase ⌝ }
+{
+    match phase {
+        Phase::Rest => {}
+        Phase::Due(_, _, _) => {}
+        Phase::Waiting(_, _, _, _) => {}
+        Phase::Low(_) => {}
+    }
+}
+
+// For the proof alone: what the types say of the numbers that are held.
+fn note_types(board: Board, place: Place, memory: &[u8])
+    ensures { λ _. ⌜ Typed board place (now (memory .entry)) ⌝ }
+{
+    let phase = place.phase;
+    note_phase(phase);
+}
+
+fn judge_exchange(request: Request, board: Board, place: Place, memory: &[u8]) -> Verdict
+    ensures { λ r. ⌜ r ≡ exchangeVerdict request board place (now (memory .entry)) ⌝ }
+{
+    if requests::is_in_range(request) {
+        if board::is_in_range(board, place) {
+            if memory.len() <= 65536 {
+                return Verdict::Accepted;
+            }
+            return Verdict::Refused(Ground::MemoryTooLong);
+        }
+        return Verdict::Refused(Ground::StateOutOfRange);
+    }
+    Verdict::Refused(Ground::RequestOutOfRange)
+}
+
+// A place that is not at rest is brought to rest with NOPs, which are counted. The request's words are sent until a reply closes it, then NOPs. After an illegal
+// command word one operand word has gone in with the reply that says so, and the port has taken it as a command word: no pod can help this, for the reply to
+// a word leaves with the next.
+pub fn exchange(request: Request, board: Board, place: Place, memory: &mut [u8]) -> Returned
+    ensures { λ r. ⌜ ExchangeMeets request board place (now (memory .entry)) r (now (memory .exit)) ⌝ }
+{
+    note_types(board, place, memory);
+    match judge_exchange(request, board, place, memory) {
+        Verdict::Accepted => rest_and_converse(request, board, place, memory),
+        Verdict::Refused(ground) => Returned {
+            answer: Exchanged::Refused(ground),
+            board: board,
+            place: place,
+        },
+    }
+}

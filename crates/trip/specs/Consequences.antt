@@ -1,0 +1,72 @@
+-- What follows from the round trip: more NOPs change nothing, and what is left is fit for the next request.
+use Prim.Native.Nat.{ℕ, zero, suc, _+_, _-_}
+use mathlib.Core.Path.{_≡_, refl, ap, _∙_, subst}
+use mathlib.Core.Bool.{true}
+use mathlib.Core.List.{List, [], _∷_, _++_}
+use lib.ListN.{length}
+use Rattle.port.specs.Run.{State, stepped, ran, replies}
+use Rattle.requests.specs.declared.Request.{Request}
+use Rattle.requests.specs.declared.Reading.the-variants.{Ended}
+use Rattle.requests.specs.declared.Reader.the-variants.{First}
+use Rattle.requests.specs.Request.{inRange, kindOf}
+use Rattle.requests.specs.Words.{commandWord, operands, builtWords}
+use Rattle.requests.specs.Replies.{fedAll, done}
+use Rattle.requests.specs.Reading.{reading, readingOf}
+use Rattle.requests.specs.NotYetLaws.{further-replies}
+use Rattle.trip.specs.Meaning.{Scene, Meaning, meaning}
+use Rattle.trip.specs.Exchange.{nops, resting, legalThere, nopsAfter}
+use Rattle.trip.specs.Promise.{laterReplies}
+use Rattle.trip.specs.StepLaws.{nop-at-rest}
+use Rattle.trip.specs.RoundTrip.{legal-closes, round-trip}
+use Rattle.trip.specs.FitLaws.{Fit, fit-is-sized, packet-keeps-fit}
+use Rattle.trip.specs.WorkLaws.{Sized}
+
+-- ---- more NOPs
+ran-append : (xs ys : List ℕ) (s : State) → ran (xs ++ ys) s ≡ ran ys (ran xs s)
+unfolding ran
+ran-append [] ys s = refl
+ran-append (x ∷ xs) ys s = ran-append xs ys (stepped s x)
+
+replies-append : (xs ys : List ℕ) (s : State) → replies (xs ++ ys) s ≡ replies xs s ++ replies ys (ran xs s)
+unfolding ran replies
+replies-append [] ys s = refl
+replies-append (x ∷ xs) ys s = rw (replies-append xs ys (stepped s x))
+
+nops-at-rest : (n : ℕ) (s : Scene) → ran (nops n) (resting s 0x0FFFF) ≡ resting s 0x0FFFF
+unfolding ran
+nops-at-rest zero s = refl
+nops-at-rest (suc n) s = ap (ran (nops n)) (nop-at-rest s 0x0FFFF) ∙ nops-at-rest n s
+
+pub record Beyond (request : Request) (words : List ℕ) (s : State) (n : ℕ) (m : Meaning) : Type 0 where
+  -- the answer and the words used are those of the round trip
+  pub answer : reading request (laterReplies (words ++ nops n) s) ≡ Ended (m .outcome) (length words - 1)
+  -- and so is all that is left
+  pub state : ran (words ++ nops n) s ≡ resting (m .leaves) 0x0FFFF
+
+-- the words of the round trip and any number of NOPs more
+pub further-nops : (request : Request) (s : Scene) (next n : ℕ) → inRange request ≡ true → legalThere request s ≡ true → Sized s
+    → Beyond request (builtWords request ++ nops (nopsAfter (s .board .w) request (meaning request s .outcome))) (resting s next) n (meaning request s)
+unfolding replies
+further-nops request s next n h l z =
+    let k = kindOf request in
+    let later = operands request ++ nops (nopsAfter (s .board .w) request (meaning request s .outcome)) in
+    let start = stepped (resting s next) (commandWord request) in
+    let trip = round-trip request s next h l z in
+    let closed : done (fedAll k First (replies later start)) ≡ true = rw (legal-closes request s next h l z .answer) in
+    let read : readingOf k (replies later start) ≡ Ended (meaning request s .outcome) (suc (length later) - 1) = rw h at (trip .answer) in
+    record {
+      answer = rw (h, replies-append later (nops n) start) (further-replies k (replies later start) (replies (nops n) (ran later start)) closed ∙ read);
+      state = ran-append (commandWord request ∷ later) (nops n) (resting s next) ∙ ap (ran (nops n)) (trip .state) ∙ nops-at-rest n (meaning request s .leaves);
+    }
+
+-- ---- the next request
+pub run-keeps-fit : (words : List ℕ) (s : State) → Fit s → Fit (ran words s)
+unfolding ran
+run-keeps-fit [] s f = f
+run-keeps-fit (word ∷ words) s f = run-keeps-fit words (stepped s word) (packet-keeps-fit f word)
+
+-- a place that a request leaves is one that the next may find
+pub left-fit : (request : Request) (s : Scene) (next : ℕ) → inRange request ≡ true → legalThere request s ≡ true → Fit (resting s next) → Fit (resting (meaning request s .leaves) 0x0FFFF)
+left-fit request s next h l f =
+    let words = builtWords request ++ nops (nopsAfter (s .board .w) request (meaning request s .outcome)) in
+    subst Fit (round-trip request s next h l (fit-is-sized f) .state) (run-keeps-fit words (resting s next) f)

@@ -1,0 +1,16 @@
+pub mod Meaning
+pub mod Exchange
+pub mod StepLaws
+pub mod ClosingLaws
+pub mod WorkLaws
+pub mod MeantLaws
+pub mod Promise
+pub mod RoundTrip
+pub mod FitLaws
+pub mod RestLaws
+pub mod ExchangeLaws
+pub mod Underway
+pub mod WriteRead
+pub mod Consequences
+pub mod EveryW
+pub mod Shown

@@ -1,0 +1,183 @@
+-- Laws of the work: what the port's work on a request's words comes to is what the request means, and its ending fits the result asked for.
+use Prim.Native.Nat.{ℕ, _^_, _≤_, _<_}
+use native.Mathlib.Omega.{arith}
+use mathlib.Core.Path.{_≡_, refl, ap}
+use mathlib.Core.Bool.{Bool, true, false, cond}
+use mathlib.Core.List.{List, [], _∷_}
+use lib.Dec.{eqb}
+use lib.Bits.{and-le-r}
+use borrow.Author.Tests.{eqb-true}
+use Rattle.memory.specs.declared.Size.{Size}
+use Rattle.memory.specs.declared.Size.the-variants.{Byte, Word, Long}
+use Rattle.memory.specs.Memory.{aligned, present, valueAt, fetched, putAt, stored}
+use Rattle.memory.specs.MemoryLaws.{AllBelow, limit, value-within}
+use Rattle.command.specs.declared.Command.{Command}
+use Rattle.command.specs.declared.Command.the-variants as command
+use Rattle.command.specs.Command.{Row, lookedUp}
+use Rattle.board.specs.declared.Board.{Board}
+use Rattle.board.specs.declared.Chain.{Chain}
+use Rattle.work.specs.declared.Access.the-variants.{Fetched, Missing}
+use Rattle.work.specs.declared.Ending.{Ending}
+use Rattle.work.specs.Access.{past, fetching, accessOf, memoryAfter, pointerAfter}
+use Rattle.work.specs.Work.{accessEnding, endingOf, chainBy, chainAfter}
+use Rattle.registers.specs.Csr.{flag, csrValue}
+use Rattle.registers.specs.Registers.{controlPlace, controlListed, controlFetched, withControl, withDebugWritten, boardAfter}
+use Rattle.requests.specs.declared.Request.the-variants.{Wdmreg}
+use Rattle.requests.specs.declared.ResultKind.{ResultKind}
+use Rattle.requests.specs.declared.ResultKind.the-variants.{NoResult, OfSize}
+use Rattle.requests.specs.declared.Outcome.the-variants.{Value}
+use Rattle.requests.specs.Meant.{debugRows}
+use Rattle.trip.specs.Meaning.{Scene, Meaning, meaning, reads, writes, readsControl, writesControl}
+use Rattle.trip.specs.ClosingLaws.{outcomeOf, Fits}
+use Rattle.trip.specs.StepLaws.{by-test}
+
+-- what the port's work ends in, and what it leaves
+abbrev pub workEnding : Command → ℕ → Scene → Ending
+workEnding c address s = endingOf c (s .board) address (accessOf c (s .memory) (s .pointer) address)
+
+abbrev pub workScene : Command → ℕ → ℕ → Scene → Scene
+workScene c address value s =
+    record {
+      board = boardAfter c (s .board) address value;
+      chain = chainAfter (workEnding c address s) c (s .chain);
+      pointer = pointerAfter (accessOf c (s .memory) (s .pointer) address) (s .pointer);
+      memory = memoryAfter c (s .memory) (s .pointer) address value;
+    }
+
+-- what a result must be taken from to fit: bytes, and registers of 32 bits
+pub record Sized (s : Scene) : Type 0 where
+  pub bytes : AllBelow 256 (s .memory)
+  pub general : AllBelow (2 ^ 32) (s .board .registers .general)
+  pub control : AllBelow (2 ^ 32) (s .board .registers .control)
+
+pub record Meant (c : Command) (address value : ℕ) (kind : ResultKind) (s : Scene) (m : Meaning) : Type 0 where
+  -- the ending is the outcome meant
+  pub outcome : outcomeOf (workEnding c address s) ≡ m .outcome
+  -- all that is left is as meant
+  pub leaves : workScene c address value s ≡ m .leaves
+  -- its replies are those that the request can have
+  pub fits : Sized s → Fits kind (workEnding c address s)
+
+-- ---- memory
+module _ (m : List ℕ) (size : Size) (a : ℕ) where
+  fetched-there : present m size a ≡ true → fetching m size a ≡ Fetched size (valueAt m size (aligned size a)) (past size a)
+  unfolding fetched
+  fetched-there h = rw h
+
+  fetched-missing : present m size a ≡ false → fetching m size a ≡ Missing
+  unfolding fetched
+  fetched-missing h = rw h
+
+  stored-there : (v : ℕ) → present m size a ≡ true → stored m size a v ≡ putAt m size (aligned size a) v
+  unfolding stored
+  stored-there v h = rw h
+
+  stored-missing : (v : ℕ) → present m size a ≡ false → stored m size a v ≡ m
+  unfolding stored
+  stored-missing v h = rw h
+
+fetched-outcome : (size : Size) (v p : ℕ) → outcomeOf (accessEnding (Fetched size v p)) ≡ Value v
+fetched-outcome Byte v p = refl
+fetched-outcome Word v p = refl
+fetched-outcome Long v p = refl
+
+fetched-chain : (size : Size) (v p : ℕ) (c : Command) (chain : Chain) → chainAfter (accessEnding (Fetched size v p)) c chain ≡ chainBy c chain
+fetched-chain Byte v p c chain = refl
+fetched-chain Word v p c chain = refl
+fetched-chain Long v p c chain = refl
+
+fetched-fits : (size : Size) (v p : ℕ) → v < limit size → Fits (OfSize size) (accessEnding (Fetched size v p))
+fetched-fits Byte v p h = omega arith
+fetched-fits Word v p h = omega arith
+fetched-fits Long v p h = omega arith
+
+module _ (size : Size) (s : Scene) where
+  pub read-meant : (a v : ℕ) → Meant (command.Read size) a v (OfSize size) s (reads size a s)
+  read-meant a v =
+      let x = valueAt (s .memory) size (aligned size a) in
+      by-test (present (s .memory) size a)
+      (λ h.
+      let there = fetched-there (s .memory) size a h in
+      record {
+        outcome = rw (h, there) (fetched-outcome size x (past size a));
+        leaves = rw (h, there) (ap (λ chain. record { board = s .board; chain = chain; pointer = past size a; memory = s .memory }) (fetched-chain size x (past size a) (command.Read size) (s .chain)));
+        fits = λ f. rw there (fetched-fits size x (past size a) (value-within (s .memory) size (aligned size a) (f .bytes)));
+      })
+      (λ h. let missing = fetched-missing (s .memory) size a h in record { outcome = rw (h, missing); leaves = rw (h, missing); fits = λ f. rw missing tt })
+
+  pub dump-meant : (a v : ℕ) → Meant (command.Dump size) a v (OfSize size) s (reads size (s .pointer) s)
+  dump-meant a v =
+      let x = valueAt (s .memory) size (aligned size (s .pointer)) in
+      by-test (present (s .memory) size (s .pointer))
+      (λ h.
+      let there = fetched-there (s .memory) size (s .pointer) h in
+      record {
+        outcome = rw (h, there) (fetched-outcome size x (past size (s .pointer)));
+        leaves = rw (h, there) (ap (λ chain. record { board = s .board; chain = chain; pointer = past size (s .pointer); memory = s .memory }) (fetched-chain size x (past size (s .pointer)) (command.Dump size) (s .chain)));
+        fits = λ f. rw there (fetched-fits size x (past size (s .pointer)) (value-within (s .memory) size (aligned size (s .pointer)) (f .bytes)));
+      })
+      (λ h. let missing = fetched-missing (s .memory) size (s .pointer) h in record { outcome = rw (h, missing); leaves = rw (h, missing); fits = λ f. rw missing tt })
+
+  pub write-meant : (a v : ℕ) → Meant (command.Write size) a v NoResult s (writes size a v s)
+  write-meant a v =
+      by-test (present (s .memory) size a)
+      (λ h. record { outcome = rw h; leaves = rw (h, stored-there (s .memory) size a v h); fits = λ f. rw h tt })
+      (λ h. record { outcome = rw h; leaves = rw (h, stored-missing (s .memory) size a v h); fits = λ f. rw h tt })
+
+  pub fill-meant : (a v : ℕ) → Meant (command.Fill size) a v NoResult s (writes size (s .pointer) v s)
+  fill-meant a v =
+      by-test (present (s .memory) size (s .pointer))
+      (λ h. record { outcome = rw h; leaves = rw (h, stored-there (s .memory) size (s .pointer) v h); fits = λ f. rw h tt })
+      (λ h. record { outcome = rw h; leaves = rw (h, stored-missing (s .memory) size (s .pointer) v h); fits = λ f. rw h tt })
+
+-- ---- control registers
+module _ (s : Scene) where
+  pub read-control-meant : (rc v : ℕ) → Meant command.Rcreg rc v (OfSize Long) s (readsControl rc s)
+  unfolding controlFetched
+  read-control-meant rc v =
+      by-test (controlListed rc)
+      (λ h. record { outcome = rw h; leaves = rw h; fits = λ f. rw h (omega (arith, f .control (controlPlace rc))) })
+      (λ h. record { outcome = rw h; leaves = rw h; fits = λ f. rw h tt })
+
+  pub write-control-meant : (rc v : ℕ) → Meant command.Wcreg rc v NoResult s (writesControl rc v s)
+  unfolding controlFetched withControl
+  write-control-meant rc v =
+      by-test (controlListed rc) (λ h. record { outcome = rw h; leaves = rw h; fits = λ f. rw h tt }) (λ h. record { outcome = rw h; leaves = rw h; fits = λ f. rw h tt })
+
+-- ---- CSR and the debug registers
+flag-within : (x : Bool) → flag x ≤ 1
+flag-within true = omega arith
+flag-within false = omega arith
+
+pub csr-fits : (b : Board) → csrValue b ≤ 0xFFFFFFFF
+unfolding csrValue
+csr-fits b =
+    omega (arith, flag-within (b .status .fof), flag-within (b .status .trg), flag-within (b .status .halt), flag-within (b .status .bkpt), and-le-r (b .debug .csr) 0x0007FF70)
+
+-- RDMREG with the one n that is listed
+pub rdmreg-known : (P : Command → Type 0) (n : ℕ) → P command.Rdmreg → (cond (eqb n 0) command.Rdmreg command.Unknown ≡ command.Unknown → ⊥) → P (cond (eqb n 0) command.Rdmreg command.Unknown)
+rdmreg-known P n p known = by-number (eqb n 0) known
+  where
+    by-number : (t : Bool) → (cond t command.Rdmreg command.Unknown ≡ command.Unknown → ⊥) → P (cond t command.Rdmreg command.Unknown)
+    by-number true known = p
+    by-number false known = absurd (known refl)
+
+-- what holds of each row's word and command holds of a number found among them
+abbrev EachRow : (ℕ → Command → Type 0) → List Row → Type 0
+EachRow P [] = Unit {0}
+EachRow P (r ∷ rs) = P (r .word) (r .command) × EachRow P rs
+
+found-there : (P : ℕ → Command → Type 0) (n : ℕ) (rs : List Row) → EachRow P rs → (lookedUp n rs ≡ command.Unknown → ⊥) → P n (lookedUp n rs)
+found-there P n [] each known = absurd (known refl)
+found-there P n (r ∷ rs) each known = by-number (eqb n (r .word)) refl (found-there P n rs (each .1)) known
+  where
+    by-number : (t : Bool) → eqb n (r .word) ≡ t → ((lookedUp n rs ≡ command.Unknown → ⊥) → P n (lookedUp n rs))
+        → (cond t (r .command) (lookedUp n rs) ≡ command.Unknown → ⊥)
+        → P n (cond t (r .command) (lookedUp n rs))
+    by-number true e later known = rw (eqb-true n (r .word) e) (each .0)
+    by-number false e later known = later known
+
+pub debug-meant : (n v a : ℕ) (s : Scene) → (lookedUp n debugRows ≡ command.Unknown → ⊥) → Meant (lookedUp n debugRows) a v NoResult s (meaning (Wdmreg n v) s)
+unfolding withDebugWritten
+debug-meant n v a s known =
+    found-there (λ k c. Meant c a v NoResult s (meaning (Wdmreg k v) s)) n debugRows (record { outcome = refl; leaves = refl; fits = λ f. tt }, (record { outcome = refl; leaves = refl; fits = λ f. tt }, (record { outcome = refl; leaves = refl; fits = λ f. tt }, (record { outcome = refl; leaves = refl; fits = λ f. tt }, (record { outcome = refl; leaves = refl; fits = λ f. tt }, (record { outcome = refl; leaves = refl; fits = λ f. tt }, (record { outcome = refl; leaves = refl; fits = λ f. tt }, (record { outcome = refl; leaves = refl; fits = λ f. tt }, (record { outcome = refl; leaves = refl; fits = λ f. tt }, (record { outcome = refl; leaves = refl; fits = λ f. tt }, tt)))))))))) known
