@@ -16,7 +16,7 @@ use Rattle.plan.specs.declared.Plan.{Plan}
 use Rattle.plan.specs.declared.Plan.the-variants.{Hold, Reject, Release, Work}
 use Rattle.plan.specs.Plan.{carriesC, addressIn, valueIn, withOperand, ready, waitsOf, collected, continued, planOf}
 use Rattle.port.specs.Sound.{PhaseWithin}
-use Rattle.port.specs.SoundPlan.{either}
+use Rattle.memory.specs.MemoryLaws.{either}
 use Rattle.promises.specs.NopLaws.{nop-at-rest}
 
 -- a command whose work does not read the status

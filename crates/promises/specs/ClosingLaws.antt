@@ -24,7 +24,7 @@ use Rattle.port.specs.Packets.{placeBy, planFor, placeNext}
 use Rattle.promises.specs.Words.{Word, endingFound, ended, stage}
 use Rattle.promises.specs.Words.Stage.{upperDue, closed}
 use Rattle.promises.specs.Environment.{Found, begins, goesOn, showsUpper, heard}
-use Rattle.port.specs.SoundPlan.{either}
+use Rattle.memory.specs.MemoryLaws.{either}
 use Rattle.promises.specs.StageLaws.{not-none, Open, stage-due, stage-waiting, stage-ended, stage-shown, ending-held}
 use Rattle.promises.specs.OperandLaws.{held, held-end, any-c-end}
 

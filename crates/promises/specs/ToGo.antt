@@ -28,7 +28,7 @@ use Rattle.plan.specs.declared.Plan.the-variants.{Hold, Reject, Release, Work}
 use Rattle.plan.specs.Plan.{carriesC, addressIn, valueIn, withOperand, ready, waitsOf, collected, continued}
 use Rattle.port.specs.Packets.{placeBy}
 use Rattle.port.specs.Sound.{PhaseWithin}
-use Rattle.port.specs.SoundPlan.{either}
+use Rattle.memory.specs.MemoryLaws.{either}
 
 -- the packets that carry out an upper result word: one where there are two words
 abbrev pub uppers : Command → ℕ
