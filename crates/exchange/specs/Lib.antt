@@ -3,3 +3,4 @@ pub mod Typed
 pub mod Promise
 pub mod SendLaws
 pub mod ConverseLaws
+pub mod AtRest

@@ -1,7 +1,6 @@
 -- W plays no part in what a request means: in whether it is legal, in what it answers, or in what it leaves.
 use Prim.Native.Nat.{ℕ}
 use mathlib.Core.Path.{_≡_, refl}
-use mathlib.Core.Bool.{Bool, true, false}
 use Rattle.memory.specs.declared.Size.{Size}
 use Rattle.memory.specs.Memory.{present}
 use Rattle.registers.specs.Csr.{csrValue}

@@ -55,7 +55,7 @@ rest-goes-on {n} {s} {start} u t =
       rests = u .rests;
     }
 
-rest-stays : (k : ℕ) (s : State) → atRest (s .place .phase) ≡ true → (rested k s ≡ s) × (restNops k s ≡ 0)
+pub rest-stays : (k : ℕ) (s : State) → atRest (s .place .phase) ≡ true → (rested k s ≡ s) × (restNops k s ≡ 0)
 unfolding rested restNops
 rest-stays zero s t = (refl, refl)
 rest-stays (suc k) s t = rw t (refl, refl)
