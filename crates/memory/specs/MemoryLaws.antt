@@ -38,8 +38,8 @@ put-keeps-length m Byte at v = simp length-set
 put-keeps-length m Word at v = simp length-set
 put-keeps-length m Long at v = simp length-set
 
--- what holds of both choices holds of the choice
-either : {A : Type 0} (P : A → Type 0) (t : Bool) (x y : A) → (t ≡ true → P x) → (t ≡ false → P y) → P (cond t x y)
+-- what holds of both choices, each where its test led there, holds of the choice
+pub either : {A : Type 0} (P : A → Type 0) (t : Bool) (x y : A) → (t ≡ true → P x) → (t ≡ false → P y) → P (cond t x y)
 either P true x y f g = f refl
 either P false x y f g = g refl
 

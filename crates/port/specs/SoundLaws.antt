@@ -8,7 +8,7 @@ use lib.Dec.{eqb}
 use lib.Bits.{and-le-r}
 use lib.ListN.{set, replicate}
 use borrow.Author.Tests.{le-leb}
-use Rattle.memory.specs.MemoryLaws.{AllBelow, set-keeps-below}
+use Rattle.memory.specs.MemoryLaws.{either, AllBelow, set-keeps-below}
 use Rattle.command.specs.declared.DebugRegister.{DebugRegister}
 use Rattle.command.specs.declared.Command.{Command}
 use Rattle.command.specs.declared.Command.the-variants.{Unknown, Rdreg, Wdreg, Read, Write, Dump, Fill, Go, Nop, SyncPc, Rcreg, Wcreg, Rdmreg, Wdmreg}
@@ -26,7 +26,7 @@ use Rattle.plan.specs.declared.Plan.{Plan}
 use Rattle.plan.specs.declared.Plan.the-variants.{Hold, Reject, Release, Work}
 use Rattle.plan.specs.Plan.{planOf}
 use Rattle.port.specs.Packets.{placeBy, boardBy, memoryBy, planFor, placeNext, boardNext, memoryNext}
-use Rattle.port.specs.SoundPlan.{either, PlanWithin, plan-within}
+use Rattle.port.specs.SoundPlan.{PlanWithin, plan-within}
 use Rattle.port.specs.SoundWork.{work-keeps-memory, work-keeps-place}
 use Rattle.port.specs.Sound.{DebugWithin, SoundBoard, PhaseWithin, SoundPlace, SoundMemory}
 

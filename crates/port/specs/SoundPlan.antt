@@ -14,12 +14,8 @@ use Rattle.board.specs.declared.Chain.{Chain}
 use Rattle.plan.specs.declared.Plan.{Plan}
 use Rattle.plan.specs.declared.Plan.the-variants.{Hold, Reject, Release, Work}
 use Rattle.plan.specs.Plan.{carriesC, lawful, noOperands, withOperand, addressIn, valueIn, long, waitsOf, ready, collected, begun, continued, planOf}
+use Rattle.memory.specs.MemoryLaws.{either}
 use Rattle.port.specs.Sound.{OperandsWithin, PhaseWithin}
-
--- what holds of both choices, each where its test led there, holds of the choice
-pub either : {A : Type 0} (P : A → Type 0) (t : Bool) (x y : A) → (t ≡ true → P x) → (t ≡ false → P y) → P (cond t x y)
-either P true x y f g = f refl
-either P false x y f g = g refl
 
 -- ---- the plan
 abbrev pub PlanWithin : ℕ → Plan → Type 0

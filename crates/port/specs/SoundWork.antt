@@ -12,7 +12,7 @@ use Rattle.memory.specs.declared.Size.the-variants.{Byte, Word, Long}
 use Rattle.memory.specs.declared.Fetch.{Fetch}
 use Rattle.memory.specs.declared.Fetch.the-variants.{Value, BusError}
 use Rattle.memory.specs.Memory.{bytes, aligned, present, valueAt, fetched, stored}
-use Rattle.memory.specs.MemoryLaws.{store-keeps-bytes, store-keeps-length, value-within, limit}
+use Rattle.memory.specs.MemoryLaws.{either, store-keeps-bytes, store-keeps-length, value-within, limit}
 use Rattle.command.specs.declared.Command.{Command}
 use Rattle.command.specs.declared.Command.the-variants.{Unknown, Rdreg, Wdreg, Read, Write, Dump, Fill, Go, Nop, SyncPc, Rcreg, Wcreg, Rdmreg, Wdmreg}
 use Rattle.board.specs.declared.Board.{Board}
@@ -25,7 +25,6 @@ use Rattle.work.specs.declared.Ending.{Ending}
 use Rattle.work.specs.declared.Ending.the-variants.{Complete, Failed, OneWord, TwoWords}
 use Rattle.work.specs.Access.{past, fetchedAccess, fetching, storing, accessOf, memoryAfter, pointerAfter}
 use Rattle.work.specs.Work.{accessEnding, controlEnding, controlWriteEnding, endingOf, firstReply, phaseAfter, placeAfter}
-use Rattle.port.specs.SoundPlan.{either}
 use Rattle.port.specs.Sound.{SoundBoard, PhaseWithin, SoundPlace, SoundMemory}
 
 -- ---- memory and the pointer

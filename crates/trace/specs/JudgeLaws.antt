@@ -8,11 +8,12 @@ use native.Mathlib.Omega.{arith}
 use lib.Dec.{ltb, eqb}
 use lib.ListN.{length}
 use borrow.Author.Tests.{le-ltb, ltb-false}
+use Rattle.grounds.specs.declared.Ground.the-variants.{ReservedPst, MarkerTooSoon, TraceCutShort}
+use Rattle.grounds.specs.Grounds.{number}
 use Rattle.trace.specs.declared.cycle.Carried.{Carried}
-use Rattle.trace.specs.declared.listing.Ground.the-variants.{ReservedPst, MarkerTooSoon, EndsInTransfer}
 use Rattle.trace.specs.Cycle.{pst, reserved, tooSoon, carriedInto}
 use Rattle.trace.specs.Items.{itemsBefore, items}
-use Rattle.trace.specs.Listing.{number, Told, refusal, counted, tooLong, earliest, endsInside, tooShort, judged, listing, reading}
+use Rattle.trace.specs.Listing.{Told, refusal, counted, tooLong, earliest, endsInside, tooShort, judged, listing, reading}
 
 cycles-left : (n i : ℕ) → i < n → n - i ≡ suc (n - (i + 1))
 cycles-left n i h = omega arith
@@ -37,7 +38,7 @@ abbrev pub ending : List ℕ → Told
 ending trace = endsInside trace (counted (length (items trace)))
 
 pub earliest-ends : (trace : List ℕ) (i n : ℕ) (c : Carried) → i ≡ length trace → c ≡ carriedInto trace i → n ≡ length (itemsBefore trace i)
-    → earliest trace i (length trace - i) (ending trace) ≡ cond (eqb (c .due) 0) (counted n) (refusal (number EndsInTransfer) 0)
+    → earliest trace i (length trace - i) (ending trace) ≡ cond (eqb (c .due) 0) (counted n) (refusal (number TraceCutShort) 0)
 unfolding earliest endsInside items
 earliest-ends trace i n c e f g =
     rw (none-left, ← e, ← f, ← g)

@@ -1,24 +1,16 @@
--- Refusal numbers (01), 7 to 11, and what the listing of a trace answers and leaves in the buffer.
+-- Refusals 7 to 11 (01), and what the listing of a trace answers and leaves in the buffer.
 use mathlib.Core.Path.{_≡_}
 use Prim.Native.Nat.{ℕ, zero, suc, _+_, _*_}
 use mathlib.Core.Bool.{cond}
 use mathlib.Core.List.{List, _++_}
 use lib.Dec.{ltb, eqb}
 use lib.ListN.{length, drop}
-use Rattle.trace.specs.declared.listing.Ground.{Ground}
-use Rattle.trace.specs.declared.listing.Ground.the-variants.{TraceTooLong, ReservedPst, MarkerTooSoon, EndsInTransfer, BufferTooShort}
+use Rattle.grounds.specs.declared.Ground.the-variants.{TraceTooLong, ReservedPst, MarkerTooSoon, TraceCutShort, BufferTooShort}
+use Rattle.grounds.specs.Grounds.{number}
 use Rattle.trace.specs.declared.listing.Listing.{Listing}
 use Rattle.trace.specs.declared.listing.Listing.the-variants.{Items, Refused}
 use Rattle.trace.specs.Cycle.{pst, reserved, tooSoon, carriedInto}
 use Rattle.trace.specs.Items.{items, words}
-
--- the table of grounds, 7 to 11
-abbrev pub number : Ground → ℕ
-number TraceTooLong = 7
-number ReservedPst = 8
-number MarkerTooSoon = 9
-number EndsInTransfer = 10
-number BufferTooShort = 11
 
 -- "A refusal returns its number, with the cycle for 8 and 9 and zero elsewhere"; else the items are counted
 pub data Told : Type 0 where
@@ -44,7 +36,7 @@ earliest trace i (suc n) otherwise =
 
 -- 10: "the trace ends inside a transfer"
 unfoldable pub endsInside : List ℕ → Told → Told
-endsInside trace otherwise = cond (eqb (carriedInto trace (length trace) .due) 0) otherwise (refusal (number EndsInTransfer) 0)
+endsInside trace otherwise = cond (eqb (carriedInto trace (length trace) .due) 0) otherwise (refusal (number TraceCutShort) 0)
 
 -- 11: "the result buffer is too short"
 unfoldable pub tooShort : List ℕ → ℕ → Told → Told

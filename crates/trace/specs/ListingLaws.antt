@@ -1,18 +1,17 @@
 -- Laws of the listing: the buffer's part, the promise from the answer alone, and that no second answer fits.
-use mathlib.Core.Path.{_≡_, refl, ap, sym, _∙_}
+use mathlib.Core.Path.{_≡_, ap, sym, _∙_}
 use Prim.Native.Nat.{ℕ, _*_, _≤_, _<_}
-use mathlib.Core.Bool.{cond}
 use mathlib.Core.List.{List}
 use native.Mathlib.Omega.{arith}
-use lib.Dec.{eqb}
 use lib.ListN.{length}
 use borrow.Author.Tests.{lt-ltb, le-ltb}
-use Rattle.trace.specs.declared.listing.Ground.{Ground}
-use Rattle.trace.specs.declared.listing.Ground.the-variants.{TraceTooLong, ReservedPst, MarkerTooSoon, EndsInTransfer, BufferTooShort}
+use Rattle.grounds.specs.declared.Ground.the-variants.{BufferTooShort}
+use Rattle.grounds.specs.Grounds.{number}
+use Rattle.grounds.specs.GroundLaws.{same-number-same-ground}
 use Rattle.trace.specs.declared.listing.Listing.{Listing}
 use Rattle.trace.specs.declared.listing.Listing.the-variants.{Items, Refused}
 use Rattle.trace.specs.Items.{items}
-use Rattle.trace.specs.Listing.{number, Told, refusal, told, tooShort, listing, wordsAfter, ListingMeets}
+use Rattle.trace.specs.Listing.{Told, refusal, told, tooShort, listing, wordsAfter, ListingMeets}
 
 -- a buffer of two words an item is enough, and a shorter one is not
 pub short-so : (trace : List ℕ) (room : ℕ) (t : Told) → room < 2 * length (items trace) → tooShort trace room t ≡ refusal (number BufferTooShort) 0
@@ -27,29 +26,13 @@ room-so trace room t h = rw (le-ltb room (2 * length (items trace)) h)
 pub listing-meets : (trace before after : List ℕ) (r : Listing) → told r ≡ listing trace (length before) → after ≡ wordsAfter trace before (told r) → ListingMeets trace before r after
 listing-meets trace before after r e f = record { answer = e; words = f ∙ ap (wordsAfter trace before) e }
 
--- the table of grounds, read back
-groundOf : ℕ → Ground
-groundOf k = cond (eqb k 7) TraceTooLong (cond (eqb k 8) ReservedPst (cond (eqb k 9) MarkerTooSoon (cond (eqb k 10) EndsInTransfer BufferTooShort)))
-
-ground-back : (g : Ground) → groundOf (number g) ≡ g
-unfolding groundOf
-ground-back TraceTooLong = refl
-ground-back ReservedPst = refl
-ground-back MarkerTooSoon = refl
-ground-back EndsInTransfer = refl
-ground-back BufferTooShort = refl
-
--- no two grounds have one number
-pub ground-one : (g h : Ground) → number g ≡ number h → g ≡ h
-ground-one g h e = sym (ground-back g) ∙ ap groundOf e ∙ ground-back h
-
 -- two answers of one number and the same values are one
 pub told-one : (r s : Listing) → told r ≡ told s → r ≡ s
 told-one (Items n) (Items m) e = cc
 told-one (Items n) (Refused g i) e = let z : _≡_ {A = ℕ} 0 1 = cc in absurd (omega arith)
 told-one (Refused g i) (Items m) e = let z : _≡_ {A = ℕ} 0 1 = cc in absurd (omega arith)
 told-one (Refused g i) (Refused h j) e =
-    let same : g ≡ h = ground-one g h (cc) in
+    let same : g ≡ h = same-number-same-ground g h (cc) in
     let cycle : i ≡ j = cc in
     cc
 

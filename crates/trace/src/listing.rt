@@ -1,6 +1,7 @@
 // The listing of a trace into a lent buffer, and the judgement of a trace that precedes it.
 use crate::cycle;
 use crate::cycle::Carried;
+use grounds::Ground;
 ghost use mathlib.Core.Path.{_≡_};
 ghost use Prim.Native.Nat.{_+_, _≤_, _<_};
 ghost use mathlib.Core.List.{[], _∷_};
@@ -8,33 +9,12 @@ ghost use lib.ListN.{length};
 ghost use lib.Seq.{sets};
 ghost use Rattle.trace.specs.Items.{valueItem, ownItem, itemsAt, countAt, items, words};
 ghost use Rattle.trace.specs.Stores.{Stored};
-ghost use Rattle.trace.specs.Listing.{number, told, reading, ListingMeets};
-
-// Why a trace, or a buffer for its items, is refused.
-pub enum Ground {
-    TraceTooLong,
-    ReservedPst,
-    MarkerTooSoon,
-    EndsInTransfer,
-    BufferTooShort,
-}
+ghost use Rattle.trace.specs.Listing.{told, reading, ListingMeets};
 
 // How many items a trace has, or why it is refused and at which cycle (0 where the ground has none).
 pub enum Listing {
     Items(usize),
     Refused { ground: Ground, cycle: usize },
-}
-
-pub fn ground_number(ground: Ground) -> u32
-    ensures { λ r. ⌜ r ≡ number ground ⌝ }
-{
-    match ground {
-        Ground::TraceTooLong => 7,
-        Ground::ReservedPst => 8,
-        Ground::MarkerTooSoon => 9,
-        Ground::EndsInTransfer => 10,
-        Ground::BufferTooShort => 11,
-    }
 }
 
 // How many items a cycle gives.
@@ -86,7 +66,7 @@ pub fn judge_trace(trace: &[u8]) -> Listing
         return Listing::Items(items);
     }
     Listing::Refused {
-        ground: Ground::EndsInTransfer,
+        ground: Ground::TraceCutShort,
         cycle: 0,
     }
 }

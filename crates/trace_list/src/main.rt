@@ -93,7 +93,7 @@ fn write_refusal(number: u32, cycle: usize) {
 fn list(trace: &[u8]) {
     let mut words = [0u32; 262144];
     match listing::list_trace(trace, &mut words) {
-        Listing::Refused { ground, cycle } => write_refusal(listing::ground_number(ground), cycle),
+        Listing::Refused { ground, cycle } => write_refusal(grounds::number_of(ground), cycle),
         Listing::Items(items) => {
             write_head(trace.len(), items);
             if items <= 131072 {

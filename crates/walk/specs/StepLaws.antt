@@ -5,8 +5,8 @@ use mathlib.Core.Bool.{Bool, true, false}
 use mathlib.Core.List.{List}
 use native.Mathlib.Omega.{arith}
 use lib.ListN.{length}
+use Rattle.grounds.specs.declared.Ground.{Ground}
 use Rattle.trace.specs.declared.cycle.Carried.{Carried}
-use Rattle.trace.specs.declared.listing.Ground.{Ground}
 use Rattle.trace.specs.declared.listing.Listing.{Listing}
 use Rattle.trace.specs.declared.listing.Listing.the-variants.{Items, Refused}
 use Rattle.walk.specs.declared.Place.{Place}

@@ -6,6 +6,7 @@ use mathlib.Core.List.{List, [], _∷_}
 use lib.Dec.{eqb}
 use lib.ListN.{length}
 use denote.Ref.{RefT, now}
+use Rattle.grounds.specs.Grounds.{number}
 use Rattle.trace.specs.declared.cycle.Carried.{Carried}
 use Rattle.trace.specs.declared.cycle.Item.{Item}
 use Rattle.trace.specs.declared.listing.Listing.{Listing}
@@ -13,7 +14,7 @@ use Rattle.trace.specs.declared.listing.Listing.the-variants.{Items, Refused}
 use Rattle.trace.specs.Cycle.{pst, givesOwn, nothing, after}
 use Rattle.trace.specs.Items.{ofValue, ofCycle}
 use Rattle.trace.specs.Listing as told
-use Rattle.trace.specs.Listing.{number, Told, told, reading}
+use Rattle.trace.specs.Listing.{Told, told, reading}
 use Rattle.walk.specs.declared.Place.{Place}
 use Rattle.walk.specs.declared.Handed.{Handed}
 use Rattle.walk.specs.declared.Handed.the-variants.{Item as oneItem, End as atEnd, Refused as asRefused}

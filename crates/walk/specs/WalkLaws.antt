@@ -7,15 +7,17 @@ use native.Mathlib.Nat.{zero-add, suc-add, sub-zero}
 use native.Mathlib.Omega.{arith}
 use lib.ListN.{length, replicate}
 use denote.Ref.{RefT, now}
+use Rattle.grounds.specs.declared.Ground.{Ground}
+use Rattle.grounds.specs.Grounds.{number}
+use Rattle.grounds.specs.GroundLaws.{same-number-same-ground}
 use Rattle.trace.specs.declared.cycle.Item.{Item}
-use Rattle.trace.specs.declared.listing.Ground.{Ground}
 use Rattle.trace.specs.declared.listing.Listing.{Listing}
 use Rattle.trace.specs.declared.listing.Listing.the-variants.{Items, Refused}
 use Rattle.trace.specs.Cycle.{nothing, carriedInto}
 use Rattle.trace.specs.Items.{itemsBefore, items}
-use Rattle.trace.specs.Listing.{number, Told, refusal, counted, told, reading}
+use Rattle.trace.specs.Listing.{Told, refusal, counted, told, reading}
 use Rattle.trace.specs.JudgeLaws.{read-so}
-use Rattle.trace.specs.ListingLaws.{told-one, ground-one}
+use Rattle.trace.specs.ListingLaws.{told-one}
 use Rattle.walk.specs.declared.Place.{Place}
 use Rattle.walk.specs.declared.Walk.{Walk}
 use Rattle.walk.specs.declared.Handed.{Handed}
@@ -126,7 +128,7 @@ told-step-one (oneItem x) (oneItem y) e =
     let v : x .value ≡ y .value = cc in
     rw (i, c, v)
 told-step-one (asRefused g i) (asRefused h j) e =
-    let same : g ≡ h = ground-one g h (cc) in
+    let same : g ≡ h = same-number-same-ground g h (cc) in
     let cycle : i ≡ j = cc in
     cc
 told-step-one atEnd atEnd e = refl

@@ -1,9 +1,9 @@
 // A walk that borrows the trace and remembers its place, one item a step.
+use grounds::Ground;
 use trace::cycle;
 use trace::cycle::Carried;
 use trace::cycle::Item;
 use trace::listing;
-use trace::listing::Ground;
 use trace::listing::Listing;
 ghost use mathlib.Core.Path.{_≡_};
 ghost use Prim.Native.Nat.{_+_, _-_, _<_};

@@ -14,8 +14,8 @@ list-trace-requires c κs = search needs
 enum-known-ground : tie.Need-enum-known-ground
 enum-known-ground c = search needs
 
-ground-number-requires : tie.Need-ground-number-requires
-ground-number-requires c κs = search needs
+number-of-requires : tie.Need-number-of-requires
+number-of-requires c κs = search needs
 
 write-refusal-requires : tie.Need-write-refusal-requires
 write-refusal-requires c κs = search needs
@@ -57,7 +57,7 @@ list-spec =
     slice-aggregate-list-trace
     list-trace-requires
     enum-known-ground
-    ground-number-requires
+    number-of-requires
     write-refusal-requires
     enum-known-items
     write-head-requires

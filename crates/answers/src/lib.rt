@@ -1,0 +1,376 @@
+// The bench around the board: its lines answered, as the desk's language has them for stand_in and talk.
+use board::Board;
+use board::Place;
+use bus::BreakpointOutcome;
+use bus::Captured;
+use bus::EventOutcome;
+use bus::Pressed;
+use bus::Seen;
+use grounds::Verdict;
+use lines::BoardLine;
+use port::Outcome;
+use trigger::Access;
+use trigger::Bus;
+use trigger::Event;
+ghost use Prim.Native.Nat.{_≤_};
+
+mod state;
+
+// The board, the place, and how many bytes of memory are lent.
+pub struct Bench {
+    pub board: Board,
+    pub place: Place,
+    pub lent: usize,
+}
+
+// The bench after a line, and where the answer in the text ends; 0 where no answer is due.
+pub struct Answered {
+    pub bench: Bench,
+    pub end: usize,
+}
+
+// As it starts: `make 0` with no memory.
+pub fn opened() -> Bench {
+    let made = board::make(0);
+    let board = made.board;
+    let place = made.place;
+    Bench {
+        board: board,
+        place: place,
+        lent: 0,
+    }
+}
+
+fn put_flag(text: &mut [u8], at: usize, flag: bool) -> usize {
+    if flag {
+        return console::put_byte(text, at, b'1');
+    }
+    console::put_byte(text, at, b'0')
+}
+
+fn make(w: u32, bench: Bench, text: &mut [u8]) -> Answered {
+    let made = board::make(w);
+    let verdict = made.verdict;
+    let board = made.board;
+    let place = made.place;
+    match verdict {
+        Verdict::Accepted => Answered {
+            bench: Bench {
+                board: board,
+                place: place,
+                lent: bench.lent,
+            },
+            end: console::put_text(text, 0, b"made"),
+        },
+        Verdict::Refused(ground) => Answered {
+            bench: bench,
+            end: console::put_refusal(text, ground),
+        },
+    }
+}
+
+fn clear_at(memory: &mut [u8], i: usize) {
+    if i < memory.len() {
+        memory[i] = 0;
+    }
+}
+
+fn clear(memory: &mut [u8], count: usize) {
+    let mut i: usize = 0;
+    while i < count {
+        clear_at(memory, i);
+        i += 1;
+    }
+}
+
+fn lend(n: u32, bench: Bench, memory: &mut [u8], text: &mut [u8]) -> Answered {
+    let count = n as usize;
+    clear(memory, count);
+    let at = console::put_text(text, 0, b"memory ");
+    let end = console::put_number(text, at, n);
+    let board = bench.board;
+    let place = bench.place;
+    Answered {
+        bench: Bench {
+            board: board,
+            place: place,
+            lent: count,
+        },
+        end: end,
+    }
+}
+
+fn copy_bytes(line: &[u8], start: usize, count: usize, memory: &mut [u8], to: usize) {
+    let mut i: usize = 0;
+    while i < count {
+        put_one(line, start, memory, to, i);
+        i += 1;
+    }
+}
+
+// The byte of the digits at a place of a line, which has 4,096 bytes at most.
+fn put_one(line: &[u8], start: usize, memory: &mut [u8], to: usize, i: usize) {
+    if i <= 4096 {
+        if start <= 4096 {
+            let byte = words::number::byte_at(line, start + 2 * i);
+            if to <= memory.len() {
+                if i < memory.len() - to {
+                    memory[to + i] = (byte % 256) as u8;
+                }
+            }
+        }
+    }
+}
+
+// Whether so many bytes from an address on are lent.
+fn is_lent(address: u32, count: usize, lent: usize) -> bool {
+    let from = address as usize;
+    if from <= lent {
+        return count <= lent - from;
+    }
+    false
+}
+
+fn put_bytes(
+    line: &[u8],
+    address: u32,
+    start: usize,
+    count: usize,
+    bench: Bench,
+    memory: &mut [u8],
+    text: &mut [u8],
+) -> Answered {
+    if is_lent(address, count, bench.lent) {
+        copy_bytes(line, start, count, memory, address as usize);
+        let at = console::put_text(text, 0, b"bytes ");
+        return Answered {
+            bench: bench,
+            end: console::put_number(text, at, (count % 0x100000000) as u32),
+        };
+    }
+    Answered {
+        bench: bench,
+        end: console::put_text(text, 0, b"unclear"),
+    }
+}
+
+fn show_bytes(address: u32, count: u32, bench: Bench, memory: &[u8], text: &mut [u8]) -> Answered {
+    if is_lent(address, count as usize, bench.lent) {
+        let at = console::put_text(text, 0, b"peek ");
+        return Answered {
+            bench: bench,
+            end: put_memory(memory, address as usize, count, text, at),
+        };
+    }
+    Answered {
+        bench: bench,
+        end: console::put_text(text, 0, b"unclear"),
+    }
+}
+
+// The byte so many places after another one, and 0 beyond the end.
+fn byte_of(memory: &[u8], from: usize, i: usize) -> u32 {
+    if from <= memory.len() {
+        if i < memory.len() - from {
+            return wide(memory[from + i]);
+        }
+        return 0;
+    }
+    0
+}
+
+fn wide(byte: u8) -> u32 {
+    byte as u32
+}
+
+fn put_memory(memory: &[u8], from: usize, count: u32, text: &mut [u8], at: usize) -> usize {
+    let mut to = at;
+    let mut i: usize = 0;
+    let most = count as usize;
+    while i < most {
+        to = console::put_hex(text, to, byte_of(memory, from, i), 2);
+        i += 1;
+    }
+    to
+}
+
+// The bytes lent, of those that there are.
+fn lent_of(lent: usize, most: usize) -> usize
+    ensures { λ r. ⌜ r ≤ most ⌝ }
+{
+    if lent <= most {
+        return lent;
+    }
+    most
+}
+
+fn take_word(word: u32, bench: Bench, memory: &mut [u8], text: &mut [u8]) -> Answered {
+    let board = bench.board;
+    let place = bench.place;
+    let answer = port::take_packet(board, place, memory, word);
+    let outcome = answer.outcome;
+    let board_next = answer.board;
+    let place_next = answer.place;
+    let end = put_reply(text, outcome);
+    Answered {
+        bench: Bench {
+            board: board_next,
+            place: place_next,
+            lent: bench.lent,
+        },
+        end: end,
+    }
+}
+
+fn put_reply(text: &mut [u8], outcome: Outcome) -> usize {
+    match outcome {
+        Outcome::Reply(reply) => {
+            let at = console::put_text(text, 0, b"reply ");
+            console::put_hex(text, at, reply, 5)
+        }
+        Outcome::Refusing(ground) => console::put_refusal(text, ground),
+    }
+}
+
+fn put_halted(text: &mut [u8], at: usize, halted: bool, interrupt: bool) -> usize {
+    let at = console::put_text(text, at, b" halted ");
+    let at = put_flag(text, at, halted);
+    let at = console::put_text(text, at, b" interrupt ");
+    put_flag(text, at, interrupt)
+}
+
+fn put_captured(text: &mut [u8], at: usize, captured: Captured) -> usize {
+    match captured {
+        Captured::Nothing => console::put_text(text, at, b" pc none"),
+        Captured::Pc(pc) => {
+            let at = console::put_text(text, at, b" pc ");
+            console::put_hex(text, at, pc, 8)
+        }
+    }
+}
+
+fn put_seen(text: &mut [u8], seen: Seen) -> usize {
+    let captured = seen.captured;
+    let at = console::put_text(text, 0, b"event level ");
+    let at = console::put_hex(text, at, seen.level, 1);
+    let at = put_halted(text, at, seen.halted, seen.interrupt);
+    put_captured(text, at, captured)
+}
+
+fn put_event(text: &mut [u8], outcome: EventOutcome) -> usize {
+    match outcome {
+        EventOutcome::Refused(ground) => console::put_refusal(text, ground),
+        EventOutcome::Taken(seen) => put_seen(text, seen),
+    }
+}
+
+fn watch(event: Event, bench: Bench, text: &mut [u8]) -> Answered {
+    let board = bench.board;
+    let place = bench.place;
+    let answer = bus::take_event(board, place, event);
+    let outcome = answer.outcome;
+    let board_next = answer.board;
+    let end = put_event(text, outcome);
+    Answered {
+        bench: Bench {
+            board: board_next,
+            place: place,
+            lent: bench.lent,
+        },
+        end: end,
+    }
+}
+
+fn put_pressed(text: &mut [u8], pressed: Pressed) -> usize {
+    let at = console::put_text(text, 0, b"breakpoint");
+    put_halted(text, at, pressed.halted, pressed.interrupt)
+}
+
+fn put_breakpoint(text: &mut [u8], outcome: BreakpointOutcome) -> usize {
+    match outcome {
+        BreakpointOutcome::Refused(ground) => console::put_refusal(text, ground),
+        BreakpointOutcome::Taken(pressed) => put_pressed(text, pressed),
+    }
+}
+
+fn press(bench: Bench, text: &mut [u8]) -> Answered {
+    let board = bench.board;
+    let place = bench.place;
+    let answer = bus::press_breakpoint(board, place);
+    let outcome = answer.outcome;
+    let board_next = answer.board;
+    let end = put_breakpoint(text, outcome);
+    Answered {
+        bench: Bench {
+            board: board_next,
+            place: place,
+            lent: bench.lent,
+        },
+        end: end,
+    }
+}
+
+fn tell_state(bench: Bench, text: &mut [u8]) -> Answered {
+    let board = bench.board;
+    let place = bench.place;
+    Answered {
+        bench: bench,
+        end: state::put_state(text, board, place),
+    }
+}
+
+fn carrying(pc: u32, address: u32, attribute: u32, lanes: u32) -> Event {
+    Event {
+        pc: pc,
+        bus: Bus::Carries(Access {
+            address: address,
+            attribute: (attribute % 256) as u8,
+            lanes: lanes,
+        }),
+    }
+}
+
+fn packet_line(word: u32, bench: Bench, memory: &mut [u8], text: &mut [u8]) -> Answered {
+    let n = lent_of(bench.lent, memory.len());
+    take_word(word, bench, &mut memory[..n], text)
+}
+
+// The answer to a line of the board's, put at the front of the text.
+pub fn answer_line(
+    line: &[u8],
+    asked: BoardLine,
+    bench: Bench,
+    memory: &mut [u8],
+    text: &mut [u8],
+) -> Answered {
+    match asked {
+        BoardLine::Nothing => Answered {
+            bench: bench,
+            end: 0,
+        },
+        BoardLine::Make(w) => make(w, bench, text),
+        BoardLine::Memory(n) => lend(n, bench, memory, text),
+        BoardLine::Bytes(address, start, count) => {
+            put_bytes(line, address, start, count, bench, memory, text)
+        }
+        BoardLine::Packet(word) => packet_line(word, bench, memory, text),
+        BoardLine::Event(pc) => watch(
+            Event {
+                pc: pc,
+                bus: Bus::Idle,
+            },
+            bench,
+            text,
+        ),
+        BoardLine::EventWithAccess(pc, address, attribute, lanes) => {
+            watch(carrying(pc, address, attribute, lanes), bench, text)
+        }
+        BoardLine::Breakpoint => press(bench, text),
+        BoardLine::Peek(address, count) => show_bytes(address, count, bench, memory, text),
+        BoardLine::State => tell_state(bench, text),
+        BoardLine::Unclear => Answered {
+            bench: bench,
+            end: console::put_text(text, 0, b"unclear"),
+        },
+    }
+}

@@ -1,0 +1,75 @@
+-- Laws of the event and the breakpoint input: what they leave alone, and that the ranges of ground 12 stay kept.
+use Prim.Native.Nat.{ℕ}
+use mathlib.Core.Path.{_≡_, refl, sym, ap, _∙_}
+use mathlib.Core.Bool.{Bool, true, false, cond, _&&_, true≢false}
+use lib.Dec.{eqb, leb}
+use Rattle.grounds.specs.declared.Ground.{Ground}
+use Rattle.grounds.specs.declared.Verdict.{Verdict}
+use Rattle.grounds.specs.declared.Verdict.the-variants.{Accepted, Refused}
+use Rattle.board.specs.declared.Board.{Board}
+use Rattle.board.specs.declared.Place.{Place}
+use Rattle.board.specs.declared.Status.{Status}
+use Rattle.board.specs.Ranges.{inRange, phaseInRange, bstatInRange}
+use Rattle.registers.specs.Registers.{withStatus}
+use Rattle.trigger.specs.declared.Event.{Event}
+use Rattle.trigger.specs.Levels.{levelTwo}
+use Rattle.trigger.specs.Groups.{firedLevel}
+use Rattle.bus.specs.Firing.{bstatAfter, firing, statusAfter}
+use Rattle.bus.specs.Breakpoint.{pressed, statusPressed}
+use Rattle.bus.specs.Events.{boardBy, eventVerdict, breakpointVerdict, boardAfterEvent, boardAfterBreakpoint}
+
+-- whatever the verdict, only the status may change: W, the registers and the debug registers stay
+by-status-alone : (v : Verdict) (b : Board) (s : Status) → boardBy v b s ≡ withStatus b (boardBy v b s .status)
+by-status-alone Accepted b s = refl
+by-status-alone (Refused g) b s = refl
+
+pub event-changes-status-alone : (b : Board) (p : Place) (e : Event) → boardAfterEvent b p e ≡ withStatus b (boardAfterEvent b p e .status)
+event-changes-status-alone b p e = by-status-alone (eventVerdict b p e) b (statusAfter (b .status) (b .debug) (firing (b .status) (b .debug) e))
+
+pub breakpoint-changes-status-alone : (b : Board) (p : Place) → boardAfterBreakpoint b p ≡ withStatus b (boardAfterBreakpoint b p .status)
+breakpoint-changes-status-alone b p = by-status-alone (breakpointVerdict b p) b (statusPressed (b .status) (pressed (b .status) (b .debug)))
+
+pub refused-event-changes-nothing : (b : Board) (p : Place) (e : Event) (g : Ground) → eventVerdict b p e ≡ Refused g → boardAfterEvent b p e ≡ b
+refused-event-changes-nothing b p e g refused = rw refused
+
+pub refused-breakpoint-changes-nothing : (b : Board) (p : Place) (g : Ground) → breakpointVerdict b p ≡ Refused g → boardAfterBreakpoint b p ≡ b
+refused-breakpoint-changes-nothing b p g refused = rw refused
+
+-- a firing leaves BSTAT within its range
+bstat-stays-in-range : (level tdr bstat : ℕ) → bstatInRange bstat ≡ true → bstatInRange (bstatAfter level tdr bstat) ≡ true
+unfolding bstatAfter bstatInRange
+bstat-stays-in-range level tdr bstat within = by-tests (eqb level 1) (levelTwo tdr .ebl) (eqb level 2)
+  where
+    by-tests : (one ebl two : Bool) → bstatInRange (cond one (cond ebl 5 2) (cond two 6 bstat)) ≡ true
+    by-tests true true two = refl
+    by-tests true false two = refl
+    by-tests false ebl true = refl
+    by-tests false ebl false = within
+
+one-for-another : (before old new after : Bool) → (before && old && after) ≡ true → (old ≡ true → new ≡ true) → (before && new && after) ≡ true
+one-for-another false old new after h kept = h
+one-for-another true true new after h kept = rw (kept refl) h
+one-for-another true false new after h kept = absurd (true≢false (sym h))
+
+-- of the ranges, only BSTAT's speaks of the status
+in-range-with : (b : Board) (p : Place) (s : Status) → inRange b p ≡ true → (bstatInRange (b .status .bstat) ≡ true → bstatInRange (s .bstat) ≡ true)
+    → inRange (withStatus b s) p ≡ true
+unfolding inRange
+in-range-with b p s within kept =
+    one-for-another (leb (b .w) 15 && phaseInRange (b .w) (p .phase) && leb (p .next) 0x1FFFF) (bstatInRange (b .status .bstat)) (bstatInRange (s .bstat)) (leb (p .pointer) 65536) within kept
+
+in-range-by : (v : Verdict) (b : Board) (p : Place) (s : Status) → inRange b p ≡ true → (bstatInRange (b .status .bstat) ≡ true → bstatInRange (s .bstat) ≡ true)
+    → inRange (boardBy v b s) p ≡ true
+in-range-by Accepted b p s within kept = in-range-with b p s within kept
+in-range-by (Refused g) b p s within kept = within
+
+pub event-keeps-ranges : (b : Board) (p : Place) (e : Event) → inRange b p ≡ true → inRange (boardAfterEvent b p e) p ≡ true
+unfolding statusAfter firing
+event-keeps-ranges b p e within =
+    in-range-by (eventVerdict b p e) b p (statusAfter (b .status) (b .debug) (firing (b .status) (b .debug) e)) within
+    (bstat-stays-in-range (firedLevel (b .status .bstat) (b .debug) e) (b .debug .tdr) (b .status .bstat))
+
+pub breakpoint-keeps-ranges : (b : Board) (p : Place) → inRange b p ≡ true → inRange (boardAfterBreakpoint b p) p ≡ true
+unfolding statusPressed
+breakpoint-keeps-ranges b p within =
+    in-range-by (breakpointVerdict b p) b p (statusPressed (b .status) (pressed (b .status) (b .debug))) within (λ same. same)

@@ -1,0 +1,22 @@
+use borrow.Author.Needs.{needs}
+use Rattle.lines.proofs.ask_or.Statement.{statement}
+use Rattle.lines.proofs.ask_or.Tie as tie
+
+enum-known-asked : tie.Need-enum-known-asked
+enum-known-asked c = search needs
+
+enum-told : tie.Need-enum-told
+enum-told c = search needs
+
+leave-out-packet-requires : tie.Need-leave-out-packet-requires
+leave-out-packet-requires c κs = search needs
+
+returns : tie.Need-returns
+returns c = rw (c .before .asked .given .1)
+
+returns-2 : tie.Need-returns-2
+returns-2 c = rw (c .before .enum-told .given .1, ← c .leave-out-packet .ensures)
+
+pub ask-or-spec : {M : Type 1} → statement M
+ask-or-spec =
+    tie.close (tie.spec enum-known-asked enum-told leave-out-packet-requires returns returns-2)

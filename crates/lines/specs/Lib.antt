@@ -1,0 +1,10 @@
+pub mod Names
+pub mod Table
+pub mod Requests
+pub mod Board
+pub mod Talk
+pub mod Pod
+pub mod PodLaws
+pub mod Examples
+pub mod LineLaws
+pub mod RoomLaws

@@ -1,0 +1,42 @@
+-- The desk's language: the lines of `talk`.
+use Prim.Native.Nat.{ℕ}
+use mathlib.Core.List.{List}
+use lib.ListN.{length}
+use Rattle.words.specs.declared.LineKind.{LineKind}
+use Rattle.words.specs.declared.LineKind.the-variants.{Silent, Clear, TooLong}
+use Rattle.words.specs.Words.{kindOf, words}
+use Rattle.lines.specs.declared.Asked.{Asked}
+use Rattle.lines.specs.declared.Asked.the-variants.{For, NoRequest}
+use Rattle.lines.specs.declared.BoardLine.{BoardLine}
+use Rattle.lines.specs.declared.BoardLine.the-variants.{Nothing, Make, Memory, Bytes, Packet, Event, EventWithAccess, Breakpoint, Peek, State, Unclear}
+use Rattle.lines.specs.declared.TalkLine.{TalkLine}
+use Rattle.lines.specs.declared.TalkLine.the-variants.{Board, Ask}
+use Rattle.lines.specs.Board.{boardWords}
+use Rattle.lines.specs.Requests.{requestOf}
+
+-- "`make`, `memory`, `bytes`, `event`, `breakpoint`, `peek` and `state` as in `stand_in`": all of its lines but `packet`
+abbrev pub withoutPacket : BoardLine → BoardLine
+withoutPacket Nothing = Nothing
+withoutPacket (Make w) = Make w
+withoutPacket (Memory n) = Memory n
+withoutPacket (Bytes a start count) = Bytes a start count
+withoutPacket (Packet x) = Unclear
+withoutPacket (Event pc) = Event pc
+withoutPacket (EventWithAccess pc address attribute lanes) = EventWithAccess pc address attribute lanes
+withoutPacket Breakpoint = Breakpoint
+withoutPacket (Peek a n) = Peek a n
+withoutPacket State = State
+withoutPacket Unclear = Unclear
+
+-- "A REQUEST alone on its line"
+abbrev pub askedOr : Asked → BoardLine → TalkLine
+askedOr (For request) line = Ask request
+askedOr NoRequest line = Board (withoutPacket line)
+
+abbrev pub talkAt : LineKind → List ℕ → TalkLine
+talkAt Silent line = Board Nothing
+talkAt Clear line = askedOr (requestOf (words line)) (boardWords (length line) (words line))
+talkAt TooLong line = Board Unclear
+
+unfoldable pub talkLine : List ℕ → TalkLine
+talkLine line = talkAt (kindOf line) line

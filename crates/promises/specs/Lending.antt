@@ -1,0 +1,38 @@
+-- Memory lent to a history: a list whose bytes are seen to be bytes.
+use Prim.Native.Nat.{ℕ, zero, suc}
+use mathlib.Core.Path.{_≡_, refl}
+use mathlib.Core.Bool.{Bool, true, _&&_}
+use mathlib.Core.List.{List, [], _∷_, map}
+use lib.Dec.{ltb}
+use Rattle.memory.specs.MemoryLaws.{AllBelow}
+use native.Mathlib.Omega.{arith}
+use borrow.Author.Tests.{ltb-true}
+use Rattle.promises.specs.Machine.{State, standIn}
+use Rattle.promises.specs.FitLaws.{first, second}
+use Rattle.promises.specs.Environment.{Handed, handed}
+use Rattle.promises.specs.History.{Lent, Call, finds}
+use Rattle.promises.specs.History.Call.{packet}
+
+abbrev pub allBytes : List ℕ → Bool
+allBytes [] = true
+allBytes (x ∷ xs) = ltb x 256 && allBytes xs
+
+pub narrow : (xs : List ℕ) → allBytes xs ≡ true → AllBelow 256 xs
+narrow [] h i = omega arith
+narrow (x ∷ xs) h zero = ltb-true x 256 (first (ltb x 256) (allBytes xs) h)
+narrow (x ∷ xs) h (suc i) = narrow xs (second (ltb x 256) (allBytes xs) h) i
+
+abbrev pub lent : (xs : List ℕ) → allBytes xs ≡ true → Lent
+lent xs h = record { bytes = xs; narrow = narrow xs h }
+
+abbrev pub noMemory : Lent
+noMemory = lent [] refl
+
+-- words sent one after another, each lent the same memory
+abbrev pub sends : Lent → List ℕ → List Call
+sends m [] = []
+sends m (word ∷ words) = packet m word ∷ sends m words
+
+-- the replies that they carry out, those that are accepted
+abbrev pub replies : State → List Call → List ℕ
+replies s calls = map (λ (h : Handed). h .reply) (handed standIn (s .place) (finds standIn s calls))

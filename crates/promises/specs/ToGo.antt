@@ -1,0 +1,155 @@
+-- Demand 3, rest: how many packets a phase has to go, at most 4 + W, and how each packet takes one off.
+use Prim.Native.Nat.{ℕ, _+_, _-_, _≤_, zero-le}
+use native.Mathlib.Nat.{le-refl}
+use mathlib.Core.Path.{_≡_, refl}
+use mathlib.Core.Bool.{Bool, true, false, cond}
+use mathlib.Core.List.{List}
+use lib.Dec.{eqb}
+use native.Mathlib.Omega.{arith}
+use Rattle.memory.specs.declared.Size.{Size}
+use Rattle.memory.specs.declared.Size.the-variants.{Byte, Word, Long}
+use Rattle.memory.specs.declared.Fetch.{Fetch}
+use Rattle.memory.specs.declared.Fetch.the-variants.{Value, BusError}
+use Rattle.memory.specs.Memory.{present, fetched}
+use Rattle.command.specs.declared.Command.{Command}
+use Rattle.command.specs.declared.Command.the-variants.{Unknown, Rdreg, Wdreg, Read, Write, Dump, Fill, Go, Nop, SyncPc, Rcreg, Wcreg, Rdmreg, Wdmreg}
+use Rattle.command.specs.Command.{sizeWords, operandWords, resultWords, waits}
+use Rattle.board.specs.declared.Board.{Board}
+use Rattle.board.specs.declared.Place.{Place}
+use Rattle.board.specs.declared.Operands.{Operands}
+use Rattle.board.specs.declared.Phase.{Phase}
+use Rattle.board.specs.declared.Phase.the-variants.{Rest, Due, Waiting, Low}
+use Rattle.registers.specs.Registers.{controlFetched}
+use Rattle.work.specs.declared.Access.the-variants.{Stored, Missing}
+use Rattle.work.specs.Access.{past, fetchedAccess, accessOf}
+use Rattle.work.specs.Work.{accessEnding, controlEnding, controlWriteEnding, endingOf, phaseAfter}
+use Rattle.plan.specs.declared.Plan.{Plan}
+use Rattle.plan.specs.declared.Plan.the-variants.{Hold, Reject, Release, Work}
+use Rattle.plan.specs.Plan.{carriesC, addressIn, valueIn, withOperand, ready, waitsOf, collected, continued}
+use Rattle.port.specs.Packets.{placeBy}
+use Rattle.port.specs.Sound.{PhaseWithin}
+use Rattle.memory.specs.MemoryLaws.{either}
+
+-- the packets that carry out an upper result word: one where there are two words
+abbrev pub uppers : Command → ℕ
+uppers c = resultWords c - 1
+
+abbrev pub toGo : ℕ → Phase → ℕ
+toGo w Rest = 0
+toGo w (Due c left t) = left + waitsOf w c + uppers c
+toGo w (Waiting c left address value) = left + uppers c
+toGo w (Low low) = 1
+
+-- WRITE long and WCREG have four operands and no result words; READ long and RCREG two of each
+four-at-most : (c : Command) → operandWords c + uppers c ≤ 4
+four-at-most Unknown = omega arith
+four-at-most (Rdreg n) = omega arith
+four-at-most (Wdreg n) = omega arith
+four-at-most (Read Byte) = omega arith
+four-at-most (Read Word) = omega arith
+four-at-most (Read Long) = omega arith
+four-at-most (Write Byte) = omega arith
+four-at-most (Write Word) = omega arith
+four-at-most (Write Long) = omega arith
+four-at-most (Dump Byte) = omega arith
+four-at-most (Dump Word) = omega arith
+four-at-most (Dump Long) = omega arith
+four-at-most (Fill Byte) = omega arith
+four-at-most (Fill Word) = omega arith
+four-at-most (Fill Long) = omega arith
+four-at-most Go = omega arith
+four-at-most Nop = omega arith
+four-at-most SyncPc = omega arith
+four-at-most Rcreg = omega arith
+four-at-most Wcreg = omega arith
+four-at-most Rdmreg = omega arith
+four-at-most (Wdmreg r) = omega arith
+
+waits-at-most : (w : ℕ) (c : Command) → waitsOf w c ≤ w
+waits-at-most w c = either (λ (n : ℕ). n ≤ w) (waits c) w 0 (λ e. le-refl w) (λ e. zero-le)
+
+pub to-go-at-most : (w : ℕ) (phase : Phase) → PhaseWithin w phase → toGo w phase ≤ 4 + w
+to-go-at-most w Rest h = zero-le
+to-go-at-most w (Due c left t) h = omega (arith, h .1, four-at-most c, waits-at-most w c)
+to-go-at-most w (Waiting c left address value) h = omega (arith, h .1, four-at-most c)
+to-go-at-most w (Low low) h = omega arith
+
+pub none-to-go : (w : ℕ) (phase : Phase) → PhaseWithin w phase → toGo w phase ≤ 0 → phase ≡ Rest
+none-to-go w Rest h l = refl
+none-to-go w (Due c left t) h l = absurd (omega (arith, h .0))
+none-to-go w (Waiting c left address value) h l = absurd (omega (arith, h .0))
+none-to-go w (Low low) h l = absurd (omega arith)
+
+-- what the work leaves to go: the upper result word, where there are two
+accessed : (w : ℕ) (s : Size) (f : Fetch) (past : ℕ) → toGo w (phaseAfter (accessEnding (fetchedAccess s past f))) ≤ sizeWords s - 1
+accessed w Byte (Value v) past = zero-le
+accessed w Word (Value v) past = zero-le
+accessed w Long (Value v) past = le-refl _
+accessed w s BusError past = zero-le
+
+stores : (w : ℕ) (t : Bool) (past : ℕ) → toGo w (phaseAfter (accessEnding (cond t (Stored past) Missing))) ≤ 0
+stores w true past = zero-le
+stores w false past = zero-le
+
+control-read : (w : ℕ) (f : Fetch) → toGo w (phaseAfter (controlEnding f)) ≤ 1
+control-read w (Value v) = le-refl _
+control-read w BusError = zero-le
+
+control-written : (w : ℕ) (f : Fetch) → toGo w (phaseAfter (controlWriteEnding f)) ≤ 0
+control-written w (Value v) = zero-le
+control-written w BusError = zero-le
+
+work-to-go : (w : ℕ) (c : Command) (b : Board) (m : List ℕ) (pointer address : ℕ)
+    → toGo w (phaseAfter (endingOf c b address (accessOf c m pointer address))) ≤ uppers c
+work-to-go w Unknown b m pointer address = zero-le
+work-to-go w (Rdreg n) b m pointer address = le-refl _
+work-to-go w (Wdreg n) b m pointer address = zero-le
+work-to-go w (Read s) b m pointer address = accessed w s (fetched m s address) (past s address)
+work-to-go w (Write s) b m pointer address = stores w (present m s address) (past s address)
+work-to-go w (Dump s) b m pointer address = accessed w s (fetched m s pointer) (past s pointer)
+work-to-go w (Fill s) b m pointer address = stores w (present m s pointer) (past s pointer)
+work-to-go w Go b m pointer address = zero-le
+work-to-go w Nop b m pointer address = zero-le
+work-to-go w SyncPc b m pointer address = zero-le
+work-to-go w Rcreg b m pointer address = control-read w (controlFetched b address)
+work-to-go w Wcreg b m pointer address = control-written w (controlFetched b address)
+work-to-go w Rdmreg b m pointer address = le-refl _
+work-to-go w (Wdmreg r) b m pointer address = zero-le
+
+-- a plan that leaves at most n to go
+abbrev pub PlanLeaves : ℕ → ℕ → Plan → Type 0
+PlanLeaves w n (Hold phase) = toGo w phase ≤ n
+PlanLeaves w n Reject = Unit {0}
+PlanLeaves w n (Release low) = Unit {0}
+PlanLeaves w n (Work c address value) = uppers c ≤ n
+
+pub leaves-more : (w n more : ℕ) (plan : Plan) → n ≤ more → PlanLeaves w n plan → PlanLeaves w more plan
+leaves-more w n more (Hold phase) l h = omega arith
+leaves-more w n more Reject l h = tt
+leaves-more w n more (Release low) l h = tt
+leaves-more w n more (Work c address value) l h = omega arith
+
+pub place-leaves : (w n : ℕ) (plan : Plan) (b : Board) (p : Place) (m : List ℕ) → PlanLeaves w n plan → toGo w (placeBy plan b p m .phase) ≤ n
+place-leaves w n (Hold phase) b p m h = h
+place-leaves w n Reject b p m h = zero-le
+place-leaves w n (Release low) b p m h = zero-le
+place-leaves w n (Work c address value) b p m h = omega (arith, work-to-go w c b m (p .pointer) address)
+
+pub ready-leaves : (w left : ℕ) (c : Command) (address value : ℕ) → PlanLeaves w (left + uppers c) (ready left c address value)
+unfolding ready
+ready-leaves w left c address value =
+    either (PlanLeaves w (left + uppers c)) (eqb left 0) (Work c address value) (Hold (Waiting c left address value)) (λ e. omega arith) (λ e. le-refl _)
+
+collected-leaves : (w left : ℕ) (c : Command) (t : Operands) → PlanLeaves w (left + waitsOf w c + uppers c) (collected w left c t)
+unfolding collected
+collected-leaves w left c t =
+    either (PlanLeaves w (left + waitsOf w c + uppers c)) (eqb left 0) (ready (waitsOf w c) c (addressIn (operandWords c) t) (valueIn (operandWords c) t)) (Hold (Due c left t))
+    (λ e. leaves-more w (waitsOf w c + uppers c) (left + waitsOf w c + uppers c) (ready (waitsOf w c) c (addressIn (operandWords c) t) (valueIn (operandWords c) t)) (omega arith)
+    (ready-leaves w (waitsOf w c) c (addressIn (operandWords c) t) (valueIn (operandWords c) t)))
+    (λ e. le-refl _)
+
+pub continued-leaves : (c : Command) (left : ℕ) (t : Operands) (w word : ℕ) → PlanLeaves w (left - 1 + waitsOf w c + uppers c) (continued c left t w word)
+unfolding continued
+continued-leaves c left t w word =
+    either (PlanLeaves w (left - 1 + waitsOf w c + uppers c)) (carriesC word) Reject (collected w (left - 1) c (withOperand t word))
+    (λ e. tt) (λ e. collected-leaves w (left - 1) c (withOperand t word))

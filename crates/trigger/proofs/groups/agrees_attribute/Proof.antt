@@ -1,0 +1,14 @@
+use Rattle.trigger.specs.Groups.{attributeAgrees}
+use borrow.Author.Needs.{needs}
+use Rattle.trigger.proofs.groups.agrees_attribute.Statement.{statement}
+use Rattle.trigger.proofs.groups.agrees_attribute.Tie as tie
+
+agrees-requires : tie.Need-agrees-requires
+agrees-requires c κs = search needs
+
+returns : tie.Need-returns
+unfolding attributeAgrees
+returns c = rw (← c .agrees .ensures)
+
+pub agrees-attribute-spec : {M : Type 1} → statement M
+agrees-attribute-spec = tie.close (tie.spec agrees-requires returns)

@@ -1,0 +1,27 @@
+// A bit of a register, and the masked comparison (01, "Events and firing").
+ghost use mathlib.Core.Path.{_≡_};
+ghost use Prim.Native.Nat.{_<_};
+ghost use Rattle.trigger.specs.Masks.{bit, agree, turned};
+
+// The masked comparison: the bits of a and b where the mask is 0.
+pub fn agrees(mask: u32, a: u32, b: u32) -> bool
+    ensures { λ r. ⌜ r ≡ agree mask a b ⌝ }
+{
+    (a | mask) == (b | mask)
+}
+
+pub fn turn(invert: bool, agreed: bool) -> bool
+    ensures { λ r. ⌜ r ≡ turned invert agreed ⌝ }
+{
+    if invert {
+        return !agreed;
+    }
+    agreed
+}
+
+pub fn is_set(bits: u32, k: u32) -> bool
+    requires { ⌜ k < 32 ⌝ }
+    ensures { λ r. ⌜ r ≡ bit k bits ⌝ }
+{
+    (bits >> k) % 2 == 1
+}
