@@ -1,11 +1,13 @@
-//! `second NAME ..`: the desk's programs, their stored lines, and the comparison with other programs.
+//! `second NAME ..`: the desk's programs, the morning's check, the stored lines, and the comparison with other programs.
 
-use second::{check, desk, stored};
+use second::desk::{self, morning};
+use second::{check, stored};
 use std::io::{self, BufWriter};
 use std::path::Path;
 use std::process::ExitCode;
 
 const USAGE: &str = "usage: second stand_in | pod | talk | trace_list
+       second morning
        second gen DIR
        second expect DIR
        second compare [--all] BIN_DIR VECTORS_DIR
@@ -19,6 +21,7 @@ fn main() -> ExitCode {
     let done = match arguments[..] {
         ["trace_list"] => list(),
         [name] if desk::LINE_PROGRAMS.contains(&name) => converse(name),
+        ["morning"] => check_morning(),
         ["gen", directory] => stored::generate(Path::new(directory)).map(|()| true),
         ["expect", directory] => check::expect(Path::new(directory)).map(|()| true),
         ["compare", programs, vectors] => check::compare(Path::new(programs), Path::new(vectors), all),
@@ -54,4 +57,9 @@ fn list() -> Result<bool, String> {
     let mut output = BufWriter::new(io::stdout().lock());
     desk::trace_list(&mut io::stdin().lock(), &mut output).map_err(|error| format!("second trace_list: {error}"))?;
     Ok(true)
+}
+
+fn check_morning() -> Result<bool, String> {
+    let mut output = BufWriter::new(io::stdout().lock());
+    morning::write_page(&morning::run_checks(), &mut output).map_err(|error| format!("second morning: {error}"))
 }

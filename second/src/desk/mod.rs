@@ -1,6 +1,7 @@
 //! The desk's programs and their lines (desk-language.md).
 
 mod bench;
+pub mod morning;
 mod pod;
 mod stand_in;
 mod talk;

@@ -18,15 +18,17 @@ impl StandIn {
 impl Program for StandIn {
     fn answer_words(&mut self, words: &[&[u8]]) -> Option<String> {
         match words {
-            [b"packet", x] => {
-                let packet = number(x)?;
-                let Bench { board, memory } = &mut self.bench;
-                Some(match board.packet(memory, packet) {
-                    Ok(reply) => format!("reply {reply:05X}"),
-                    Err(refusal) => refusal.to_string(),
-                })
-            }
+            [b"packet", x] => Some(send_packet(&mut self.bench, number(x)?)),
             _ => self.bench.answer_words(words),
         }
+    }
+}
+
+/// The answer to a packet through the port.
+pub fn send_packet(bench: &mut Bench, packet: u32) -> String {
+    let Bench { board, memory } = bench;
+    match board.packet(memory, packet) {
+        Ok(reply) => format!("reply {reply:05X}"),
+        Err(refusal) => refusal.to_string(),
     }
 }
