@@ -17,7 +17,7 @@ P5 good: two levels, the same event twice, CSR after each
 P6 good: byte READ at 0 without memory
     reply 0FFFF, reply 10000, reply 10000, reply 10001
 P7 good: FILL after READ
-    reply 0FFFF, reply 1FFFF
+    reply 0FFFF, reply 10000, reply 10000, reply 00000, reply 1FFFF
 P8 good: the word 19C0
     reply 0FFFF, reply 1FFFF
 P9 good: the trace 10 50 90 04 03 02 11 F0 F0
@@ -65,8 +65,8 @@ fn a_wrong_answer_is_bad_and_shown_with_what_is_due() {
     assert!(!good);
     let (checks, _) = GOOD_PAGE.split_once("\n\n").unwrap();
     let checks = checks.replace(
-        "P7 good: FILL after READ\n    reply 0FFFF, reply 1FFFF\n",
-        "P7 BAD: FILL after READ\n    reply 0FFFF, reply 10000\n    due: reply 0FFFF, reply 1FFFF\n",
+        "P7 good: FILL after READ\n    reply 0FFFF, reply 10000, reply 10000, reply 00000, reply 1FFFF\n",
+        "P7 BAD: FILL after READ\n    reply 0FFFF, reply 10000\n    due: reply 0FFFF, reply 10000, reply 10000, reply 00000, reply 1FFFF\n",
     );
     assert_eq!(page, format!("{checks}{BAD_END}1 BAD OF 9: HAND OUT NO POD\n"));
 }

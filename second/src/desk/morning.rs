@@ -70,9 +70,9 @@ const CHECKS: [Check; 9] = [
     Check {
         name: "P7",
         title: "FILL after READ",
-        prepares: &["make 0", "memory 10", "read.b 0"],
-        shown: Shown::Lines(&["packet 1C00", "packet 0"]),
-        due: "reply 0FFFF, reply 1FFFF",
+        prepares: &["make 0", "memory 10"],
+        shown: Shown::Lines(&["packet 1900", "packet 0", "packet 0", "packet 1C00", "packet 0"]),
+        due: "reply 0FFFF, reply 10000, reply 10000, reply 00000, reply 1FFFF",
     },
     Check {
         name: "P8",
