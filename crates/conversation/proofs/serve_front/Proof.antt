@@ -1,8 +1,8 @@
 use lib.ListN.{length-take}
 use native.Mathlib.Omega.{arith}
 use borrow.Author.Needs.{needs}
-use Rattle.stand_in.proofs.serve_front.Statement.{statement}
-use Rattle.stand_in.proofs.serve_front.Tie as tie
+use Rattle.conversation.proofs.serve_front.Statement.{statement}
+use Rattle.conversation.proofs.serve_front.Tie as tie
 
 slice-aggregate-serve : tie.Need-slice-aggregate-serve
 slice-aggregate-serve c = simp length-take (omega (arith, c .before .if1 .taken))

@@ -3,14 +3,14 @@ use lib.ListN.{length}
 use mathlib.Core.Path.{_≡_, _∙_}
 use borrow.Author.Needs.{needs}
 use native.Mathlib.Omega.{arith}
-use Rattle.stand_in.proofs.run.Statement.{statement}
-use Rattle.stand_in.proofs.run.Tie as tie
+use Rattle.conversation.proofs.run.Statement.{statement}
+use Rattle.conversation.proofs.run.Tie as tie
 
 abbrev Inv-loop : tie.InvT-loop
-Inv-loop source₀ line₀ text₀ memory₀ bench₀ feed₀ budget₀ source line text memory bench feed budget = (length source ≡ length source₀) × (length line ≡ length line₀) × (length text ≡ length text₀) × (length memory ≡ length memory₀)
+Inv-loop language₀ source₀ line₀ text₀ memory₀ bench₀ feed₀ budget₀ source line text memory bench feed budget = (length source ≡ length source₀) × (length line ≡ length line₀) × (length text ≡ length text₀) × (length memory ≡ length memory₀)
 
 abbrev μ-loop : tie.MeasureT-loop
-μ-loop source₀ line₀ text₀ memory₀ bench₀ feed₀ budget₀ source line text memory bench feed budget = budget
+μ-loop language₀ source₀ line₀ text₀ memory₀ bench₀ feed₀ budget₀ source line text memory bench feed budget = budget
 
 opened-requires : tie.Need-opened-requires Inv-loop μ-loop
 opened-requires c κs = search needs
@@ -52,7 +52,7 @@ loop-less : tie.Need-loop-less Inv-loop μ-loop
 loop-less c = omega (arith, c .before .before .before .before .before .before .before .before .before .before .before .before .before .before .before .before .before .before .before .loop-test .taken)
 
 loop-again : tie.Need-loop-again Inv-loop μ-loop
-loop-again c = let same = c .before .before .before .before .before .before .before .before .before .before .before .before .before .before .before .before .before .before .before .before .loop .inv in (c .before .before .before .before .before .before .before .before .before .before .before .before .before .before .before .before .next-line .kept .0 ∙ same .0, c .before .before .before .before .before .before .before .before .before .before .before .before .before .before .before .before .next-line .kept .1 .1 .0 ∙ same .1, c .before .before .before .before .serve-front .kept .1 .1 .1 .1 .0 ∙ same .2, c .before .before .before .before .serve-front .kept .1 .1 .1 .0 ∙ same .3)
+loop-again c = let same = c .before .before .before .before .before .before .before .before .before .before .before .before .before .before .before .before .before .before .before .before .loop .inv in (c .before .before .before .before .before .before .before .before .before .before .before .before .before .before .before .before .next-line .kept .0 ∙ same .0, c .before .before .before .before .before .before .before .before .before .before .before .before .before .before .before .before .next-line .kept .1 .1 .0 ∙ same .1, c .before .before .before .before .serve-front .kept .1 .1 .1 .1 .1 .0 ∙ same .2, c .before .before .before .before .serve-front .kept .1 .1 .1 .1 .0 ∙ same .3)
 
 same-length-5 : tie.Need-same-length-5 Inv-loop μ-loop
 same-length-5 c = search needs

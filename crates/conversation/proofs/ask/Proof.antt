@@ -1,8 +1,8 @@
 use lib.ListN.{length-take}
 use native.Mathlib.Omega.{arith}
 use borrow.Author.Needs.{needs}
-use Rattle.talk.proofs.ask.Statement.{statement}
-use Rattle.talk.proofs.ask.Tie as tie
+use Rattle.conversation.proofs.ask.Statement.{statement}
+use Rattle.conversation.proofs.ask.Tie as tie
 
 slice-relend-prefix-converse : tie.Need-slice-relend-prefix-converse
 slice-relend-prefix-converse c = search needs

@@ -1,0 +1,148 @@
+// A conversation with the bench: a line answered in one of the desk's languages, and line after line to the end of the input.
+use answers::Answered;
+use answers::Bench;
+use console::Feed;
+use console::Got;
+use exchange::Exchanged;
+use lines::TalkLine;
+use requests::Request;
+
+// Which lines are taken.
+pub enum Language {
+    // `packet`, and no request
+    StandIn,
+    // requests, and no `packet`
+    Talk,
+    Both,
+}
+
+// What an exchange came to, with the packets sent.
+fn put_exchanged(text: &mut [u8], answer: Exchanged) -> usize {
+    match answer {
+        Exchanged::Ended(outcome, packets) => {
+            let at = console::put_outcome(text, outcome);
+            let at = console::put_text(text, at, b" packets ");
+            console::put_decimal(text, at, packets)
+        }
+        Exchanged::Refused(ground) => console::put_refusal(text, ground),
+    }
+}
+
+fn converse(request: Request, bench: Bench, memory: &mut [u8], text: &mut [u8]) -> Answered {
+    let board = bench.board;
+    let place = bench.place;
+    let returned = exchange::exchange(request, board, place, memory);
+    let answer = returned.answer;
+    let board_next = returned.board;
+    let place_next = returned.place;
+    let end = put_exchanged(text, answer);
+    Answered {
+        bench: Bench {
+            board: board_next,
+            place: place_next,
+            lent: bench.lent,
+        },
+        end: end,
+    }
+}
+
+// The exchange over the bytes lent, of those that there are.
+fn ask(request: Request, bench: Bench, memory: &mut [u8], text: &mut [u8]) -> Answered {
+    let lent = bench.lent;
+    if lent <= memory.len() {
+        return converse(request, bench, &mut memory[..lent], text);
+    }
+    converse(request, bench, memory, text)
+}
+
+fn answer_stand_in(line: &[u8], bench: Bench, memory: &mut [u8], text: &mut [u8]) -> Answered {
+    answers::answer_line(line, lines::read_stand_in_line(line), bench, memory, text)
+}
+
+fn answer_talk(line: &[u8], bench: Bench, memory: &mut [u8], text: &mut [u8]) -> Answered {
+    match lines::read_talk_line(line) {
+        TalkLine::Board(asked) => answers::answer_line(line, asked, bench, memory, text),
+        TalkLine::Ask(request) => ask(request, bench, memory, text),
+    }
+}
+
+fn answer_both(line: &[u8], bench: Bench, memory: &mut [u8], text: &mut [u8]) -> Answered {
+    match lines::read_talk_line(line) {
+        TalkLine::Board(_) => answer_stand_in(line, bench, memory, text),
+        TalkLine::Ask(request) => ask(request, bench, memory, text),
+    }
+}
+
+// A line's answer in the text, and the bench after it.
+pub fn answer(
+    language: Language,
+    line: &[u8],
+    bench: Bench,
+    memory: &mut [u8],
+    text: &mut [u8],
+) -> Answered {
+    match language {
+        Language::StandIn => answer_stand_in(line, bench, memory, text),
+        Language::Talk => answer_talk(line, bench, memory, text),
+        Language::Both => answer_both(line, bench, memory, text),
+    }
+}
+
+// One line's answer is written; the bench after it.
+fn serve(
+    language: Language,
+    line: &[u8],
+    bench: Bench,
+    memory: &mut [u8],
+    text: &mut [u8],
+) -> Bench {
+    let answered = answer(language, line, bench, memory, text);
+    let end = answered.end;
+    let after = answered.bench;
+    if 0 < end {
+        console::say(text, end);
+        return after;
+    }
+    after
+}
+
+// The line at the front of the buffer.
+fn serve_front(
+    language: Language,
+    line: &[u8],
+    length: usize,
+    bench: Bench,
+    memory: &mut [u8],
+    text: &mut [u8],
+) -> Bench {
+    if length <= line.len() {
+        return serve(language, &line[..length], bench, memory, text);
+    }
+    bench
+}
+
+// Line after line, to the end of the input. The budget of lines is never used up.
+fn run(language: Language, source: &mut [u8], line: &mut [u8], text: &mut [u8], memory: &mut [u8]) {
+    let mut bench = answers::opened();
+    let mut feed = Feed { at: 0, end: 0 };
+    let mut budget: u64 = 0xFFFFFFFFFFFFFFFF;
+    while 0 < budget {
+        budget -= 1;
+        let fed = console::next_line(source, feed, line);
+        feed = fed.feed;
+        let got = fed.got;
+        let Got::Line(length) = got else {
+            return;
+        };
+        bench = serve_front(language, line, length, bench, memory, text);
+    }
+}
+
+// The lines of standard input, each answered before the next is read.
+pub fn hold(language: Language) {
+    let mut source = [0u8; 65536];
+    let mut line = [0u8; 4097];
+    let mut text = [0u8; 4096];
+    let mut memory = [0u8; 65552];
+    run(language, &mut source, &mut line, &mut text, &mut memory);
+}

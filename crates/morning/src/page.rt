@@ -1,0 +1,58 @@
+// The page that is read by eye: each check with what came out, and last how many were bad.
+use libc::STDOUT_FILENO;
+ghost use mathlib.Core.Path.{_≡_};
+ghost use mathlib.Core.Bool.{true};
+
+// Nothing is to be done where standard output is closed.
+fn put(text: &[u8]) {
+    io::write_all(STDOUT_FILENO, text);
+}
+
+fn write_under(verdict: &[u8], title: &[u8], came: &[u8]) {
+    put(verdict);
+    put(title);
+    put(b"\n    ");
+    put(came);
+    put(b"\n");
+}
+
+fn write_lines(number: &[u8], title: &[u8], due: &[u8], came: &[u8], good: bool) {
+    put(number);
+    if good {
+        write_under(b" good: ", title, came);
+        return;
+    }
+    write_under(b" BAD: ", title, came);
+    put(b"    due: ");
+    put(due);
+    put(b"\n");
+}
+
+// A check's lines; good is what came out as it is due, and nothing else.
+pub fn write_check(number: &[u8], title: &[u8], due: &[u8], came: &[u8]) -> bool
+    ensures { λ r. ⌜ (r ≡ true → now (came .entry) ≡ now (due .entry)) × (now (came .entry) ≡ now (due .entry) → r ≡ true) ⌝ }
+{
+    let good = check::same(came, due);
+    write_lines(number, title, due, came, good);
+    good
+}
+
+// Big letters, and a last line.
+pub fn write_verdict(bad: u32) {
+    if bad == 0 {
+        put(b"\n ####   ###    ###   ####\n");
+        put(b"#      #   #  #   #  #   #\n");
+        put(b"#  ##  #   #  #   #  #   #\n");
+        put(b"#   #  #   #  #   #  #   #\n");
+        put(b" ####   ###    ###   ####\n\n");
+        put(b"ALL 9 GOOD\n");
+        return;
+    }
+    put(b"\n####    ###   ####\n");
+    put(b"#   #  #   #  #   #\n");
+    put(b"####   #####  #   #\n");
+    put(b"#   #  #   #  #   #\n");
+    put(b"####   #   #  ####\n\n");
+    io::print_decimal(STDOUT_FILENO, bad as u64);
+    put(b" BAD OF 9: HAND OUT NO POD\n");
+}
