@@ -10,7 +10,9 @@ use lib.ListN.{length, getD, set, take, drop, length-set, drop-of-length-le, tak
 use lib.Seq.{drop-cons, take-suc-set, drop-set-lt}
 use Rattle.board.specs.declared.Board.{Board}
 use Rattle.board.specs.declared.Place.{Place}
-use Rattle.port.specs.Packets.{replyNow, boardNext, placeNext, memoryNext}
+use Rattle.plan.specs.declared.Plan.{Plan}
+use Rattle.plan.specs.Plan.{planOf}
+use Rattle.port.specs.Packets.{replyNow, boardBy, placeBy, memoryBy, planFor, boardNext, placeNext, memoryNext}
 use Rattle.port.specs.Run.{State, stateOf, stepped, ran, replies, allWithin, runVerdict}
 use Rattle.grounds.specs.declared.Ground.the-variants.{WordTooLarge, MemoryTooLong, BufferTooShort, StateOutOfRange}
 use Rattle.grounds.specs.declared.Verdict.the-variants.{Accepted}
@@ -29,6 +31,13 @@ pub stepped-by : (b : Board) (p : Place) (m : List ℕ) (word : ℕ) {b′ : Boa
 unfolding stepped
 stepped-by b p m word f g h = rw (f, g, h)
 
+-- the same from the plan
+pub stepped-as : (b : Board) (p : Place) (m : List ℕ) (word : ℕ) {plan : Plan} {b′ : Board} {p′ : Place} {m′ : List ℕ}
+    → plan ≡ planOf (p .phase) (b .status .halted) (p .chain) (b .w) word → b′ ≡ boardBy plan b → p′ ≡ placeBy plan b p m → m′ ≡ memoryBy plan p m
+    → stateOf b′ p′ m′ ≡ stepped (stateOf b p m) word
+unfolding stepped planFor boardNext placeNext memoryNext
+stepped-as b p m word e f g h = rw (f, g, h, e)
+
 -- one word more: of the run, of its replies, of the words judged
 pub ran-on : (words : List ℕ) (i : ℕ) (s : State) → i < length words → ran (drop i words) s ≡ ran (drop (i + 1) words) (stepped s (getD words i 0))
 unfolding ran
@@ -38,6 +47,10 @@ pub written-on : (words : List ℕ) (i : ℕ) (s : State) (out : List ℕ) → i
     → written (drop i words) i s out ≡ written (drop (i + 1) words) (i + 1) (stepped s (getD words i 0)) (set out i (replyNow (s .place)))
 unfolding written
 written-on words i s out h = rw (drop-cons words i 0 h, ← add-one i)
+
+pub goes-on : (words : List ℕ) (i : ℕ) (s : State) {next : State} (out : List ℕ) → i < length words → next ≡ stepped s (getD words i 0)
+    → (ran (drop (i + 1) words) next ≡ ran (drop i words) s) × (written (drop (i + 1) words) (i + 1) next (set out i (replyNow (s .place))) ≡ written (drop i words) i s out)
+goes-on words i s out h step = (rw step (sym (ran-on words i s h)), rw step (sym (written-on words i s out h)))
 
 pub within-on : (words : List ℕ) (i : ℕ) → i < length words → allWithin (drop i words) ≡ (leb (getD words i 0) 0x1FFFF && allWithin (drop (i + 1) words))
 unfolding allWithin

@@ -1,9 +1,11 @@
 // One packet, and a run of them: the reply from the state before, then the input (01, "Packets").
 ghost use mathlib.Core.Path.{_≡_};
-ghost use Rattle.port.specs.Packets.{replyIn, chainDuring, chainIn, rejected, holding, released, placeBy, boardBy, memoryBy, replyNow, placeNext, boardNext, memoryNext, packetVerdict};
+ghost use Rattle.port.specs.Packets.{quietly, replyIn, chainDuring, chainIn, rejected, holding, released, placeBy, boardBy, memoryBy, replyNow, placeNext, boardNext, memoryNext, packetVerdict};
 ghost use Rattle.port.specs.Promise.{PacketMeets};
 ghost use Rattle.port.specs.Run.{stateOf, ran, allWithin, runVerdict, RunMeets};
 ghost use Rattle.port.specs.RunLaws.{written};
+ghost use Rattle.port.specs.Idle.{idle, idled};
+ghost use Rattle.plan.specs.Plan.{planOf};
 ghost use Prim.Native.Nat.{_≤_};
 ghost use lib.ListN.{length};
 use board::Board;
@@ -111,22 +113,22 @@ fn release(place: Place, low: u16) -> Place
     }
 }
 
+// What a packet leaves of the place where no command works.
+fn settle_quietly(place: Place, plan: Plan) -> Place
+    ensures { λ r. ⌜ r ≡ quietly plan place ⌝ }
+{
+    match plan {
+        Plan::Hold(phase) => hold(place, phase),
+        Plan::Reject => reject(place),
+        Plan::Release(low) => release(place, low),
+        Plan::Work(_, _, _) => place,
+    }
+}
+
 fn carry_out(board: Board, place: Place, memory: &mut [u8], plan: Plan) -> Next
     ensures { λ r. ⌜ (r .board ≡ boardBy plan board) × (r .place ≡ placeBy plan board place (now (memory .entry))) × (now (memory .exit) ≡ memoryBy plan place (now (memory .entry))) ⌝ }
 {
     match plan {
-        Plan::Hold(phase) => Next {
-            board: board,
-            place: hold(place, phase),
-        },
-        Plan::Reject => Next {
-            board: board,
-            place: reject(place),
-        },
-        Plan::Release(low) => Next {
-            board: board,
-            place: release(place, low),
-        },
         Plan::Work(command, address, value) => {
             let access = work::make_access(memory, command, place.pointer, address, value);
             let ending = work::find_ending(command, board, address, access);
@@ -136,15 +138,25 @@ fn carry_out(board: Board, place: Place, memory: &mut [u8], plan: Plan) -> Next
                 place: settled,
             }
         }
+        _ => Next {
+            board: board,
+            place: settle_quietly(place, plan),
+        },
     }
+}
+
+fn plan_at(place: Place, halted: bool, w: u32, word: u32) -> Plan
+    ensures { λ r. ⌜ r ≡ planOf (place .phase) halted (place .chain) w word ⌝ }
+{
+    let phase = place.phase;
+    let chain = place.chain;
+    plan::make_plan(phase, halted, chain, w, word)
 }
 
 fn take_word(board: Board, place: Place, memory: &mut [u8], word: u32) -> Next
     ensures { λ r. ⌜ (r .board ≡ boardNext board place word) × (r .place ≡ placeNext board place (now (memory .entry)) word) × (now (memory .exit) ≡ memoryNext board place (now (memory .entry)) word) ⌝ }
 {
-    let phase = place.phase;
-    let chain = place.chain;
-    let plan = plan::make_plan(phase, board.status.halted, chain, board.w, word);
+    let plan = plan_at(place, board.status.halted, board.w, word);
     carry_out(board, place, memory, plan)
 }
 
@@ -223,6 +235,31 @@ fn judge_run(board: Board, place: Place, memory: &[u8], words: &[u32], room: usi
     Verdict::Refused(Ground::StateOutOfRange)
 }
 
+// A NOP at rest, as most packets of a pod are.
+fn is_idle(place: Place, word: u32) -> bool
+    ensures { λ r. ⌜ r ≡ idle (place .phase) word ⌝ }
+{
+    let phase = place.phase;
+    match phase {
+        Phase::Rest => word == 0,
+        Phase::Due(_, _, _) => false,
+        Phase::Waiting(_, _, _, _) => false,
+        Phase::Low(_) => false,
+    }
+}
+
+fn stay_idle(place: Place) -> Place
+    ensures { λ r. ⌜ r ≡ idled place ⌝ }
+{
+    let chain = place.chain;
+    Place {
+        phase: Phase::Rest,
+        chain: chain,
+        pointer: place.pointer,
+        next: 0x0FFFF,
+    }
+}
+
 fn take_words(
     board: Board,
     place: Place,
@@ -240,7 +277,17 @@ fn take_words(
         let word = words[i];
         replies[i] = reply_of(p);
         i += 1;
-        let next = take_word(b, p, memory, word);
+        // The board is large, and is left where it is by packets that leave it alone.
+        if is_idle(p, word) {
+            p = stay_idle(p);
+            continue;
+        }
+        let plan = plan_at(p, b.status.halted, b.w, word);
+        let Plan::Work(_, _, _) = plan else {
+            p = settle_quietly(p, plan);
+            continue;
+        };
+        let next = carry_out(b, p, memory, plan);
         b = next.board;
         p = next.place;
     }

@@ -1,17 +1,39 @@
 -- Laws of one cycle: what it finds under way goes on, a value grows by a nibble at its low end, and fits the nibbles it has.
-use mathlib.Core.Path.{_≡_, ap}
+use mathlib.Core.Path.{_≡_, refl, ap}
+use mathlib.Core.Bool.{Bool, true, false, cond}
+use lib.Dec.{ltb, leb}
+use borrow.Author.Tests.{ltb-true, ltb-false, lt-leb, le-leb, ne-eqb}
 use Prim.Native.Nat.{ℕ, zero, suc, _+_, _-_, _*_, _^_, _≤_, _<_}
 use mathlib.Core.List.{List}
 use native.Mathlib.Numerals.{add-one}
 use native.Mathlib.Nat.{pow-succ', pow-le-pow-right}
 use native.Mathlib.Omega.{arith}
 use Rattle.trace.specs.declared.cycle.Carried.{Carried}
-use Rattle.trace.specs.Cycle.{pst, ddata, value, after, carriedInto}
+use Rattle.trace.specs.Cycle.{single, pst, ddata, value, after, carriedInto}
 
 -- the cycle after cycle i finds what cycle i leaves
 pub carried-next : (trace : List ℕ) (i : ℕ) (c : Carried) → c ≡ carriedInto trace i → after c (pst trace i) ≡ carriedInto trace (i + 1)
 unfolding carriedInto
 carried-next trace i c e = rw (add-one i) (ap (λ (d : Carried). after d (pst trace i)) e)
+
+-- no marker gives an item of its own
+pub marker-not-single : (p : ℕ) → 8 ≤ p → single p ≡ false
+marker-not-single p h = rw (ne-eqb p 1 (λ e. omega (arith, e)), ne-eqb p 3 (λ e. omega (arith, e)), ne-eqb p 4 (λ e. omega (arith, e)), ne-eqb p 5 (λ e. omega (arith, e)), ne-eqb p 7 (λ e. omega (arith, e)))
+
+-- a marker is too soon where two nibbles or more are due, and no other PST is
+pub two-or-more : (due : ℕ) → leb 2 due ≡ cond (ltb due 2) false true
+two-or-more due = split (ltb due 2) refl
+  where
+    split : (t : Bool) → ltb due 2 ≡ t → leb 2 due ≡ cond t false true
+    split true e = lt-leb 2 due (ltb-true due 2 e)
+    split false e = le-leb 2 due (ltb-false due 2 e)
+
+pub never : (due : ℕ) → false ≡ cond (ltb due 2) false false
+never due = split (ltb due 2)
+  where
+    split : (t : Bool) → false ≡ cond t false false
+    split true = refl
+    split false = refl
 
 pub value-where : (trace : List ℕ) {a b n m : ℕ} → a ≡ b → n ≡ m → value trace a n ≡ value trace b m
 value-where trace e f = rw (e, f)

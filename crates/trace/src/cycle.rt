@@ -71,8 +71,11 @@ fn is_single(pst: u8) -> bool
 pub fn gives_own(run: u8, pst: u8) -> bool
     ensures { λ r. ⌜ r ≡ givesOwn run pst ⌝ }
 {
-    if pst < 12 {
+    if pst < 8 {
         return is_single(pst);
+    }
+    if pst < 12 {
+        return false;
     }
     pst != run
 }
@@ -81,10 +84,10 @@ pub fn gives_own(run: u8, pst: u8) -> bool
 pub fn comes_too_soon(due: u8, pst: u8) -> bool
     ensures { λ r. ⌜ r ≡ tooSoon due pst ⌝ }
 {
-    if due < 2 {
-        return false;
+    if is_marker(pst) {
+        return 2 <= due;
     }
-    is_marker(pst)
+    false
 }
 
 pub fn count_nibbles(marker: u8) -> u8
@@ -97,20 +100,24 @@ pub fn count_nibbles(marker: u8) -> u8
 pub fn after_cycle(carried: Carried, pst: u8) -> Carried
     ensures { λ r. ⌜ r ≡ after carried pst ⌝ }
 {
-    if is_marker(pst) {
-        let due = count_nibbles(pst);
+    if pst < 8 {
+        return Carried {
+            marker: carried.marker,
+            due: one_less(carried.due),
+            run: 0,
+        };
+    }
+    if pst < 12 {
         return Carried {
             marker: pst,
-            due,
+            due: count_nibbles(pst),
             run: carried.run,
         };
     }
-    let due = one_less(carried.due);
-    let run = run_of(pst);
     Carried {
         marker: carried.marker,
-        due,
-        run,
+        due: one_less(carried.due),
+        run: pst,
     }
 }
 
@@ -118,12 +125,6 @@ fn one_less(due: u8) -> u8
     ensures { λ r. ⌜ r ≡ due - 1 ⌝ }
 {
     if due == 0 { 0 } else { due - 1 }
-}
-
-fn run_of(pst: u8) -> u8
-    ensures { λ r. ⌜ r ≡ cond (ltb pst 12) 0 pst ⌝ }
-{
-    if pst < 12 { 0 } else { pst }
 }
 
 fn ddata_at(trace: &[u8], i: usize) -> u8

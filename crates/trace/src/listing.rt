@@ -22,13 +22,7 @@ fn count_items(carried: Carried, pst: u8) -> usize
     ensures { λ r. ⌜ r ≡ countAt carried pst ⌝ }
 {
     let own = cycle::gives_own(carried.run, pst);
-    if carried.due == 1 {
-        if own {
-            return 2;
-        }
-        return 1;
-    }
-    if own { 1 } else { 0 }
+    ((carried.due == 1) as usize) + (own as usize)
 }
 
 // Whether a trace can be read: the number of its items, or the refusal, a buffer aside.

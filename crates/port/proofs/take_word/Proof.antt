@@ -3,8 +3,8 @@ use borrow.Author.Needs.{needs}
 use Rattle.port.proofs.take_word.Statement.{statement}
 use Rattle.port.proofs.take_word.Tie as tie
 
-make-plan-requires : tie.Need-make-plan-requires
-make-plan-requires c κs = search needs
+plan-at-requires : tie.Need-plan-at-requires
+plan-at-requires c κs = search needs
 
 carry-out-requires : tie.Need-carry-out-requires
 carry-out-requires c κs = search needs
@@ -14,7 +14,7 @@ same-length c = search needs
 
 returns : tie.Need-returns
 unfolding boardNext placeNext memoryNext planFor
-returns c = rw (← c .before .before .before .before .make-plan .ensures) (c .before .before .carry-out .ensures)
+returns c = rw (← c .before .before .before .before .plan-at .ensures) (c .before .before .carry-out .ensures)
 
 pub take-word-spec : {M : Type 1} → statement M
-take-word-spec = tie.close (tie.spec make-plan-requires carry-out-requires same-length returns)
+take-word-spec = tie.close (tie.spec plan-at-requires carry-out-requires same-length returns)

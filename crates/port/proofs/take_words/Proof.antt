@@ -1,11 +1,12 @@
-use lib.ListN.{length-set}
+use lib.ListN.{length, drop, getD, length-set}
 use Prim.Native.Nat.{_≤_, _-_}
-use lib.ListN.{length, drop, getD}
 use mathlib.Core.Path.{_≡_, refl, sym, _∙_}
 use native.Mathlib.Omega.{arith}
 use borrow.Author.Needs.{needs}
 use Rattle.port.specs.Run.{stateOf, ran}
-use Rattle.port.specs.RunLaws.{written, stepped-by, ran-on, written-on, ran-out, written-out}
+use Rattle.port.specs.RunLaws.{written, stepped-by, stepped-as, goes-on, ran-out, written-out}
+use Rattle.port.specs.Idle.{idle-step}
+use Rattle.port.proofs.Quiet.{quiet}
 use Rattle.port.proofs.take_words.Statement.{statement}
 use Rattle.port.proofs.take_words.Tie as tie
 
@@ -41,14 +42,41 @@ slice-write-replies c = omega arith
 add-i : tie.Need-add-i Inv-loop μ-loop
 add-i c = omega arith
 
-take-word-requires : tie.Need-take-word-requires Inv-loop μ-loop
-take-word-requires c κs = search needs
+is-idle-requires : tie.Need-is-idle-requires Inv-loop μ-loop
+is-idle-requires c κs = search needs
+
+stay-idle-requires : tie.Need-stay-idle-requires Inv-loop μ-loop
+stay-idle-requires c κs = search needs
 
 loop-less : tie.Need-loop-less Inv-loop μ-loop
 loop-less c = omega arith
 
 loop-again : tie.Need-loop-again Inv-loop μ-loop
-loop-again c = let at = c .before .before .before .before .before .before .before .before .before .loop in let words = c .before .before .before .before .before .before .before .before .before .before .before .before .before .args .words .now in let more = c .before .before .before .before .before .before .before .before .loop-test .taken in let next = c .before .before .before .before .take-word .ensures in let step = stepped-by (at .b) (at .p) (at .memory) (getD words (at .i) 0) (next .0) (next .1) (next .2) in (omega arith, c .before .before .before .before .take-word .kept .1 .1 .0 ∙ at .inv .1, simp length-set (at .inv .2), rw step (sym (ran-on words (at .i) (stateOf (at .b) (at .p) (at .memory)) more) ∙ at .inv .3), rw (step, c .before .before .before .before .before .before .reply-of .ensures) (sym (written-on words (at .i) (stateOf (at .b) (at .p) (at .memory)) (at .replies) more) ∙ at .inv .4))
+loop-again c = let at = c .before .before .before .before .before .before .loop in let words = c .before .before .before .before .before .before .before .before .before .before .args .words .now in let word = getD words (at .i) 0 in let step = (let stays = idle-step (at .b) (at .p) (at .memory) word (sym (c .before .before .is-idle .ensures) ∙ c .before .if1 .taken) in stepped-by (at .b) (at .p) (at .memory) word (stays .0) (c .stay-idle .ensures ∙ stays .1) (stays .2)) in let on = goes-on words (at .i) (stateOf (at .b) (at .p) (at .memory)) (at .replies) (c .before .before .before .before .before .loop-test .taken) step in (omega arith, at .inv .1, simp length-set (at .inv .2), on .0 ∙ at .inv .3, rw (c .before .before .before .reply-of .ensures) (on .1 ∙ at .inv .4))
+
+plan-at-requires : tie.Need-plan-at-requires Inv-loop μ-loop
+plan-at-requires c κs = search needs
+
+enum-told : tie.Need-enum-told Inv-loop μ-loop
+enum-told c = search needs
+
+settle-quietly-requires : tie.Need-settle-quietly-requires Inv-loop μ-loop
+settle-quietly-requires c κs = search needs
+
+loop-less-2 : tie.Need-loop-less-2 Inv-loop μ-loop
+loop-less-2 c = omega arith
+
+loop-again-2 : tie.Need-loop-again-2 Inv-loop μ-loop
+loop-again-2 c = let at = c .before .before .before .before .before .before .before .before .loop in let words = c .before .before .before .before .before .before .before .before .before .before .before .before .args .words .now in let word = getD words (at .i) 0 in let step = (let stays = quiet (at .b) (at .p) (at .memory) (c .before .before .plan-at .result) (c .before .match .keys2) in stepped-as (at .b) (at .p) (at .memory) word (c .before .before .plan-at .ensures) (stays .0) (c .settle-quietly .ensures ∙ stays .1) (stays .2)) in let on = goes-on words (at .i) (stateOf (at .b) (at .p) (at .memory)) (at .replies) (c .before .before .before .before .before .before .before .loop-test .taken) step in (omega arith, at .inv .1, simp length-set (at .inv .2), on .0 ∙ at .inv .3, rw (c .before .before .before .before .before .reply-of .ensures) (on .1 ∙ at .inv .4))
+
+carry-out-requires : tie.Need-carry-out-requires Inv-loop μ-loop
+carry-out-requires c κs = search needs
+
+loop-less-3 : tie.Need-loop-less-3 Inv-loop μ-loop
+loop-less-3 c = omega arith
+
+loop-again-3 : tie.Need-loop-again-3 Inv-loop μ-loop
+loop-again-3 c = let at = c .before .before .before .before .before .before .before .before .before .before .before .before .before .before .loop in let words = c .before .before .before .before .before .before .before .before .before .before .before .before .before .before .before .before .before .before .args .words .now in let word = getD words (at .i) 0 in let step = (let next = c .before .before .before .before .carry-out .ensures in stepped-as (at .b) (at .p) (at .memory) word (c .before .before .before .before .before .before .before .before .plan-at .ensures) (next .0) (next .1) (next .2)) in let on = goes-on words (at .i) (stateOf (at .b) (at .p) (at .memory)) (at .replies) (c .before .before .before .before .before .before .before .before .before .before .before .before .before .loop-test .taken) step in (omega arith, c .before .before .before .before .carry-out .kept .1 .1 .0 ∙ at .inv .1, simp length-set (at .inv .2), on .0 ∙ at .inv .3, rw (c .before .before .before .before .before .before .before .before .before .before .before .reply-of .ensures) (on .1 ∙ at .inv .4))
 
 same-length : tie.Need-same-length Inv-loop μ-loop
 same-length c = c .before .loop .inv .1
@@ -72,9 +100,18 @@ take-words-spec =
     mul-replies
     slice-write-replies
     add-i
-    take-word-requires
+    is-idle-requires
+    stay-idle-requires
     loop-less
     loop-again
+    plan-at-requires
+    enum-told
+    settle-quietly-requires
+    loop-less-2
+    loop-again-2
+    carry-out-requires
+    loop-less-3
+    loop-again-3
     same-length
     same-length-2
     returns)

@@ -1,17 +1,17 @@
-use native.Mathlib.Omega.{arith}
-use borrow.Author.Tests.{lt-ltb, le-ltb}
+use mathlib.Core.Path.{sym, _∙_}
+use Rattle.trace.specs.CycleLaws.{two-or-more, never}
 use borrow.Author.Needs.{needs}
 use Rattle.trace.proofs.cycle.comes_too_soon.Statement.{statement}
 use Rattle.trace.proofs.cycle.comes_too_soon.Tie as tie
 
-returns : tie.Need-returns
-returns c = simp (lt-ltb (c .before .args .due) 2 (omega arith))
-
 is-marker-requires : tie.Need-is-marker-requires
 is-marker-requires c κs = search needs
 
+returns : tie.Need-returns
+returns c = rw (sym (c .before .is-marker .ensures) ∙ c .if1 .taken) (two-or-more (c .before .before .args .due))
+
 returns-2 : tie.Need-returns-2
-returns-2 c = simp (le-ltb (c .before .before .args .due) 2 (omega arith), c .is-marker .ensures)
+returns-2 c = rw (sym (c .before .is-marker .ensures) ∙ c .if1 .left) (never (c .before .before .args .due))
 
 pub comes-too-soon-spec : {M : Type 1} → statement M
-comes-too-soon-spec = tie.close (tie.spec returns is-marker-requires returns-2)
+comes-too-soon-spec = tie.close (tie.spec is-marker-requires returns returns-2)

@@ -1,28 +1,39 @@
-use borrow.Author.Tests.{eq-eqb, ne-eqb}
-use mathlib.Core.Path.{sym, _∙_}
-use Rattle.trace.specs.Items.{countAt}
+-- The casts make 1 of true and 0 of false.
+use Prim.Native.Nat.{_≤_}
+use mathlib.Core.Path.{_≡_, refl}
+use mathlib.Core.Bool.{Bool, true, false}
+use native.Mathlib.Omega.{arith}
+use lib.Dec.{eqb}
+use mir.Val.{boolByte}
+use Rattle.trace.specs.Items.{one, countAt}
 use borrow.Author.Needs.{needs}
 use Rattle.trace.proofs.listing.count_items.Statement.{statement}
 use Rattle.trace.proofs.listing.count_items.Tie as tie
 
+as-number : (t : Bool) → boolByte t ≡ one t
+as-number true = refl
+as-number false = refl
+
+at-most-one : (t : Bool) → boolByte t ≤ 1
+at-most-one true = omega arith
+at-most-one false = omega arith
+
 gives-own-requires : tie.Need-gives-own-requires
 gives-own-requires c κs = search needs
 
+cast-result : tie.Need-cast-result
+cast-result c = search needs
+
+cast-result-2 : tie.Need-cast-result-2
+cast-result-2 c = search needs
+
+add-result : tie.Need-add-result
+add-result c = omega (arith, at-most-one (eqb (c .before .before .args .carried .due) 1), at-most-one (c .before .gives-own .result))
+
 returns : tie.Need-returns
 unfolding countAt
-returns c = rw (eq-eqb _ _ (c .before .if1 .taken), sym (c .before .before .before .gives-own .ensures) ∙ c .if2 .taken)
-
-returns-2 : tie.Need-returns-2
-unfolding countAt
-returns-2 c = rw (eq-eqb _ _ (c .before .if1 .taken), sym (c .before .before .before .gives-own .ensures) ∙ c .if2 .left)
-
-returns-3 : tie.Need-returns-3
-unfolding countAt
-returns-3 c = rw (ne-eqb _ _ (c .before .if1 .left), sym (c .before .before .before .gives-own .ensures) ∙ c .if3 .taken)
-
-returns-4 : tie.Need-returns-4
-unfolding countAt
-returns-4 c = rw (ne-eqb _ _ (c .before .if1 .left), sym (c .before .before .before .gives-own .ensures) ∙ c .if3 .left)
+returns c = rw (as-number (eqb (c .before .before .args .carried .due) 1), as-number (c .before .gives-own .result), c .before .gives-own .ensures)
 
 pub count-items-spec : {M : Type 1} → statement M
-count-items-spec = tie.close (tie.spec gives-own-requires returns returns-2 returns-3 returns-4)
+count-items-spec =
+    tie.close (tie.spec gives-own-requires cast-result cast-result-2 add-result returns)

@@ -1,0 +1,52 @@
+//! `bench`: the proved run of packets and listing against the second program's, interleaved, in rounds. `bench count WHAT WHOSE TIMES`
+//! does one of them so many times and nothing else, so that its instructions can be counted.
+
+mod inputs;
+mod ours;
+mod rounds;
+mod work;
+
+use rounds::Contest;
+use std::process::ExitCode;
+use work::Work;
+
+const USAGE: &str = "usage: bench | bench count packets|trace ours|second TIMES";
+
+fn contests() -> [Contest; 2] {
+    [
+        Contest { what: "packets", size: inputs::PACKETS, ours: Work::run_ours, second: Work::run_second },
+        Contest { what: "trace", size: inputs::CYCLES, ours: Work::list_ours, second: Work::list_second },
+    ]
+}
+
+fn main() -> ExitCode {
+    let arguments: Vec<String> = std::env::args().skip(1).collect();
+    let arguments: Vec<&str> = arguments.iter().map(String::as_str).collect();
+    let done = match arguments[..] {
+        [] => contests().iter().try_for_each(Contest::hold),
+        ["count", what, whose, times] => count(what, whose, times),
+        _ => Err(USAGE.to_string()),
+    };
+    match done {
+        Ok(()) => ExitCode::SUCCESS,
+        Err(message) => {
+            eprintln!("bench: {message}");
+            ExitCode::FAILURE
+        }
+    }
+}
+
+fn count(what: &str, whose: &str, times: &str) -> Result<(), String> {
+    let contest = contests().into_iter().find(|contest| contest.what == what).ok_or(USAGE)?;
+    let side = match whose {
+        "ours" => contest.ours,
+        "second" => contest.second,
+        _ => return Err(USAGE.to_string()),
+    };
+    let times: u32 = times.parse().map_err(|_| USAGE)?;
+    let mut work = Work::new();
+    for _ in 0..times {
+        std::hint::black_box(side(std::hint::black_box(&mut work)));
+    }
+    Ok(())
+}

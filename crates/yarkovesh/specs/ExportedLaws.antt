@@ -1,0 +1,52 @@
+-- Laws of the exported functions: what they rest on is what they promise, and no second answer fits.
+use Prim.Native.Nat.{ℕ}
+use mathlib.Core.Path.{_≡_, sym, ap, _∙_, subst₂}
+use mathlib.Core.List.{List}
+use lib.ListN.{length}
+use Rattle.grounds.specs.declared.Ground.{Ground}
+use Rattle.grounds.specs.declared.Verdict.the-variants.{Accepted, Refused}
+use Rattle.grounds.specs.Grounds.{told, number}
+use Rattle.grounds.specs.GroundLaws.{told-once}
+use Rattle.board.specs.declared.Board.{Board}
+use Rattle.board.specs.declared.Place.{Place}
+use Rattle.board.specs.declared.Made.{Made}
+use Rattle.board.specs.Board.{freshBoard, freshPlace, makingVerdict, settingMade, MakingMeets}
+use Rattle.port.specs.declared.Ran.{Ran}
+use Rattle.port.specs.Run.{RunMeets}
+use Rattle.yarkovesh.specs.Exported.{verdictNumber, freshVerdict, FreshRunMeets, ListMeets}
+
+-- a run on the board that was made
+pub run-is-fresh : {w : ℕ} {m words before left out : List ℕ} {made : Made} {r : Ran} → MakingMeets w made → made .verdict ≡ Accepted
+    → RunMeets (made .board) (made .place) m words before r left out → FreshRunMeets w m words before (verdictNumber (r .verdict)) left out
+run-is-fresh {w} {m} {words} {before} {left} {out} {made} {r} making accepted run = record {
+  answer = rw (judged) (ap (λ t. t .number) (here .answer));
+  memory = rw (judged) (here .memory);
+  answers = rw (judged) (here .answers);
+}
+  where
+    judged : makingVerdict w ≡ Accepted
+    judged = sym (told-once (made .verdict) (makingVerdict w) (making .answer)) ∙ accepted
+
+    here : RunMeets (freshBoard (settingMade w)) freshPlace m words before r left out
+    here = subst₂ (λ (b : Board) (p : Place). RunMeets b p m words before r left out) (making .board) (making .place) run
+
+-- a board that is not made runs nothing
+pub refused-is-fresh : {w : ℕ} {m words before : List ℕ} {made : Made} {g : Ground} → MakingMeets w made → made .verdict ≡ Refused g
+    → FreshRunMeets w m words before (number g) m before
+refused-is-fresh {w} {m} {words} {before} {made} {g} making refused = record {
+  answer = rw (judged);
+  memory = rw (judged);
+  answers = rw (judged);
+}
+  where
+    judged : makingVerdict w ≡ Refused g
+    judged = sym (told-once (made .verdict) (makingVerdict w) (making .answer)) ∙ refused
+
+-- no second answer fits
+pub fresh-run-unique : {w : ℕ} {m words before : List ℕ} {r s : ℕ} {x y u v : List ℕ}
+    → FreshRunMeets w m words before r x u → FreshRunMeets w m words before s y v → (r ≡ s) × (x ≡ y) × (u ≡ v)
+fresh-run-unique f g = (f .answer ∙ sym (g .answer), f .memory ∙ sym (g .memory), f .answers ∙ sym (g .answers))
+
+pub list-unique : {trace before : List ℕ} {r s : ℕ} {x y : List ℕ}
+    → ListMeets trace before r x → ListMeets trace before s y → (r ≡ s) × (x ≡ y)
+list-unique f g = (f .answer ∙ sym (g .answer), f .words ∙ sym (g .words))

@@ -1,0 +1,2 @@
+pub mod Exported
+pub mod ExportedLaws
