@@ -41,6 +41,18 @@ pub fn opened() -> Bench {
     }
 }
 
+// An answer that ends there, and the bench as it is from then on.
+pub fn bench_after(board: Board, place: Place, lent: usize, end: usize) -> Answered {
+    Answered {
+        bench: Bench {
+            board: board,
+            place: place,
+            lent: lent,
+        },
+        end: end,
+    }
+}
+
 fn put_flag(text: &mut [u8], at: usize, flag: bool) -> usize {
     if flag {
         return console::put_byte(text, at, b'1');
@@ -54,14 +66,10 @@ fn make(w: u32, bench: Bench, text: &mut [u8]) -> Answered {
     let board = made.board;
     let place = made.place;
     match verdict {
-        Verdict::Accepted => Answered {
-            bench: Bench {
-                board: board,
-                place: place,
-                lent: bench.lent,
-            },
-            end: console::put_text(text, 0, b"made"),
-        },
+        Verdict::Accepted => {
+            let end = console::put_text(text, 0, b"made");
+            bench_after(board, place, bench.lent, end)
+        }
         Verdict::Refused(ground) => Answered {
             bench: bench,
             end: console::put_refusal(text, ground),
@@ -90,14 +98,7 @@ fn lend(n: u32, bench: Bench, memory: &mut [u8], text: &mut [u8]) -> Answered {
     let end = console::put_number(text, at, n);
     let board = bench.board;
     let place = bench.place;
-    Answered {
-        bench: Bench {
-            board: board,
-            place: place,
-            lent: count,
-        },
-        end: end,
-    }
+    bench_after(board, place, count, end)
 }
 
 fn copy_bytes(line: &[u8], start: usize, count: usize, memory: &mut [u8], to: usize) {
@@ -212,14 +213,7 @@ fn take_word(word: u32, bench: Bench, memory: &mut [u8], text: &mut [u8]) -> Ans
     let board_next = answer.board;
     let place_next = answer.place;
     let end = put_reply(text, outcome);
-    Answered {
-        bench: Bench {
-            board: board_next,
-            place: place_next,
-            lent: bench.lent,
-        },
-        end: end,
-    }
+    bench_after(board_next, place_next, bench.lent, end)
 }
 
 fn put_reply(text: &mut [u8], outcome: Outcome) -> usize {
@@ -271,14 +265,7 @@ fn watch(event: Event, bench: Bench, text: &mut [u8]) -> Answered {
     let outcome = answer.outcome;
     let board_next = answer.board;
     let end = put_event(text, outcome);
-    Answered {
-        bench: Bench {
-            board: board_next,
-            place: place,
-            lent: bench.lent,
-        },
-        end: end,
-    }
+    bench_after(board_next, place, bench.lent, end)
 }
 
 fn put_pressed(text: &mut [u8], pressed: Pressed) -> usize {
@@ -300,14 +287,7 @@ fn press(bench: Bench, text: &mut [u8]) -> Answered {
     let outcome = answer.outcome;
     let board_next = answer.board;
     let end = put_breakpoint(text, outcome);
-    Answered {
-        bench: Bench {
-            board: board_next,
-            place: place,
-            lent: bench.lent,
-        },
-        end: end,
-    }
+    bench_after(board_next, place, bench.lent, end)
 }
 
 fn tell_state(bench: Bench, text: &mut [u8]) -> Answered {

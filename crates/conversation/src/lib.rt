@@ -36,14 +36,7 @@ fn converse(request: Request, bench: Bench, memory: &mut [u8], text: &mut [u8]) 
     let board_next = returned.board;
     let place_next = returned.place;
     let end = put_exchanged(text, answer);
-    Answered {
-        bench: Bench {
-            board: board_next,
-            place: place_next,
-            lent: bench.lent,
-        },
-        end: end,
-    }
+    answers::bench_after(board_next, place_next, bench.lent, end)
 }
 
 // The exchange over the bytes lent, of those that there are.
