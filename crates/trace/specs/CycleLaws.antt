@@ -1,9 +1,10 @@
 -- Laws of one cycle: what it finds under way goes on, a value grows by a nibble at its low end, and fits the nibbles it has.
 use mathlib.Core.Path.{_≡_, refl, ap}
 use mathlib.Core.Bool.{Bool, true, false, cond}
-use lib.Dec.{ltb, leb}
+use lib.Dec.{ltb, leb, eqb}
 use borrow.Author.Tests.{ltb-true, ltb-false, lt-leb, le-leb, ne-eqb}
-use Prim.Native.Nat.{ℕ, zero, suc, _+_, _-_, _*_, _^_, _≤_, _<_}
+use Prim.Native.Nat.{ℕ, zero, suc, _+_, _-_, _*_, _/_, _^_, _≤_, _<_}
+use lib.Bits.{bitAnd}
 use mathlib.Core.List.{List}
 use native.Mathlib.Numerals.{add-one}
 use native.Mathlib.Nat.{pow-succ', pow-le-pow-right}
@@ -15,6 +16,21 @@ use Rattle.trace.specs.Cycle.{single, pst, ddata, value, after, carriedI
 pub carried-next : (trace : List ℕ) (i : ℕ) (c : Carried) → c ≡ carriedInto trace i → after c (pst trace i) ≡ carriedInto trace (i + 1)
 unfolding carriedInto
 carried-next trace i c e = rw (add-one i) (ap (λ (d : Carried). after d (pst trace i)) e)
+
+-- the bits of 0xBA are the PSTs below 8 that give an item
+pub single-bit : (p : ℕ) → p < 8 → eqb (bitAnd (0xBA / 2 ^ p) 1) 1 ≡ single p
+single-bit zero h = refl
+single-bit (suc zero) h = refl
+single-bit (suc (suc zero)) h = refl
+single-bit (suc (suc (suc zero))) h = refl
+single-bit (suc (suc (suc (suc zero)))) h = refl
+single-bit (suc (suc (suc (suc (suc zero))))) h = refl
+single-bit (suc (suc (suc (suc (suc (suc zero)))))) h = refl
+single-bit (suc (suc (suc (suc (suc (suc (suc zero))))))) h = refl
+single-bit (suc (suc (suc (suc (suc (suc (suc (suc p)))))))) h = absurd (beyond p h)
+  where
+    beyond : (n : ℕ) → suc (suc (suc (suc (suc (suc (suc (suc n))))))) < 8 → ⊥
+    beyond n h = omega (arith, h)
 
 -- no marker gives an item of its own
 pub marker-not-single : (p : ℕ) → 8 ≤ p → single p ≡ false

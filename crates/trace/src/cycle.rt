@@ -49,22 +49,14 @@ pub fn is_marker(pst: u8) -> bool
     pst < 12
 }
 
+// A bit for each PST below 8: in a trace no jump on it could be foreseen.
 fn is_single(pst: u8) -> bool
     ensures { λ r. ⌜ r ≡ single pst ⌝ }
 {
-    if pst == 1 {
-        return true;
+    if pst < 8 {
+        return (0xBAu8 >> pst) & 1 == 1;
     }
-    if pst == 3 {
-        return true;
-    }
-    if pst == 4 {
-        return true;
-    }
-    if pst == 5 {
-        return true;
-    }
-    pst == 7
+    false
 }
 
 // Whether a cycle gives an item of its own, beside a value's.

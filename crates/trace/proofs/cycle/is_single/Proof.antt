@@ -1,21 +1,17 @@
-use borrow.Author.Tests.{eq-eqb, ne-eqb}
+use mathlib.Core.Path.{sym}
+use Rattle.trace.specs.CycleLaws.{single-bit, marker-not-single}
+use borrow.Author.Needs.{needs}
 use Rattle.trace.proofs.cycle.is_single.Statement.{statement}
 use Rattle.trace.proofs.cycle.is_single.Tie as tie
 
+shr-result : tie.Need-shr-result
+shr-result c = search needs
+
 returns : tie.Need-returns
-returns c = simp (eq-eqb _ _ (c .if1 .taken))
+returns c = single-bit _ (c .if1 .taken)
 
 returns-2 : tie.Need-returns-2
-returns-2 c = simp (ne-eqb _ _ (c .before .if1 .left), eq-eqb _ _ (c .if2 .taken))
-
-returns-3 : tie.Need-returns-3
-returns-3 c = simp (ne-eqb _ _ (c .before .before .if1 .left), ne-eqb _ _ (c .before .if2 .left), eq-eqb _ _ (c .if3 .taken))
-
-returns-4 : tie.Need-returns-4
-returns-4 c = simp (ne-eqb _ _ (c .before .before .before .if1 .left), ne-eqb _ _ (c .before .before .if2 .left), ne-eqb _ _ (c .before .if3 .left), eq-eqb _ _ (c .if4 .taken))
-
-returns-5 : tie.Need-returns-5
-returns-5 c = rw (ne-eqb _ _ (c .before .before .before .if1 .left), ne-eqb _ _ (c .before .before .if2 .left), ne-eqb _ _ (c .before .if3 .left), ne-eqb _ _ (c .if4 .left))
+returns-2 c = sym (marker-not-single _ (c .if1 .left))
 
 pub is-single-spec : {M : Type 1} → statement M
-is-single-spec = tie.close (tie.spec returns returns-2 returns-3 returns-4 returns-5)
+is-single-spec = tie.close (tie.spec shr-result returns returns-2)
