@@ -13,6 +13,8 @@ use trigger::Access;
 use trigger::Bus;
 use trigger::Event;
 ghost use Prim.Native.Nat.{_≤_};
+ghost use mathlib.Core.Path.{_≡_};
+ghost use Rattle.board.specs.Board.{freshBoard, freshPlace};
 
 mod state;
 
@@ -30,7 +32,9 @@ pub struct Answered {
 }
 
 // As it starts: `make 0` with no memory.
-pub fn opened() -> Bench {
+pub fn opened() -> Bench
+    ensures { λ r. ⌜ (r .board ≡ freshBoard 0) × (r .place ≡ freshPlace) × (r .lent ≡ 0) ⌝ }
+{
     let made = board::make(0);
     let board = made.board;
     let place = made.place;
@@ -42,7 +46,9 @@ pub fn opened() -> Bench {
 }
 
 // An answer that ends there, and the bench as it is from then on.
-pub fn bench_after(board: Board, place: Place, lent: usize, end: usize) -> Answered {
+pub fn bench_after(board: Board, place: Place, lent: usize, end: usize) -> Answered
+    ensures { λ r. ⌜ (r .bench .board ≡ board) × (r .bench .place ≡ place) × (r .bench .lent ≡ lent) × (r .end ≡ end) ⌝ }
+{
     Answered {
         bench: Bench {
             board: board,

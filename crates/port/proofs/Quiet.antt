@@ -9,7 +9,8 @@ use Rattle.board.specs.declared.Place.{Place}
 use Rattle.plan.specs.declared.Plan.{Plan}
 use Rattle.plan.specs.declared.Plan.the-variants.{Hold, Reject, Release, Work}
 use Rattle.plan.proofs.Plan as declared
-use Rattle.port.specs.Packets.{quietly, boardBy, placeBy, memoryBy}
+use Rattle.port.specs.Packets.{boardBy, placeBy, memoryBy}
+use Rattle.port.specs.Quiet.{quietly}
 
 pub quiet : (b : Board) (p : Place) (m : List ℕ) (plan : Plan) → OneOf (0 ∷ 1 ∷ 2 ∷ []) (Declared.tagOf declared.the-type plan)
     → (b ≡ boardBy plan b) × (quietly plan p ≡ placeBy plan b p m) × (m ≡ memoryBy plan p m)

@@ -8,4 +8,4 @@ pub mod SoundPlan
 pub mod SoundWork
 pub mod SoundLaws
 pub mod Examples
-pub mod Idle
+pub mod Quiet

@@ -88,13 +88,6 @@ memoryBy Reject p m = m
 memoryBy (Release low) p m = m
 memoryBy (Work c address value) p m = memoryAfter c m (p .pointer) address value
 
--- the place after a packet that no command works for
-abbrev pub quietly : Plan → Place → Place
-quietly (Hold phase) p = holding p phase
-quietly Reject p = rejected p
-quietly (Release low) p = released p low
-quietly (Work c address value) p = p
-
 unfoldable pub planFor : Board → Place → ℕ → Plan
 planFor b p word = planOf (p .phase) (b .status .halted) (p .chain) (b .w) word
 

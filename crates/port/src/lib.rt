@@ -1,10 +1,10 @@
 // One packet, and a run of them: the reply from the state before, then the input (01, "Packets").
 ghost use mathlib.Core.Path.{_≡_};
-ghost use Rattle.port.specs.Packets.{quietly, replyIn, chainDuring, chainIn, rejected, holding, released, placeBy, boardBy, memoryBy, replyNow, placeNext, boardNext, memoryNext, packetVerdict};
+ghost use Rattle.port.specs.Packets.{replyIn, chainDuring, chainIn, rejected, holding, released, placeBy, boardBy, memoryBy, replyNow, placeNext, boardNext, memoryNext, packetVerdict};
 ghost use Rattle.port.specs.Promise.{PacketMeets};
 ghost use Rattle.port.specs.Run.{stateOf, ran, allWithin, runVerdict, RunMeets};
 ghost use Rattle.port.specs.RunLaws.{written};
-ghost use Rattle.port.specs.Idle.{idle, idled};
+ghost use Rattle.port.specs.Quiet.{quietly, idle, idled};
 ghost use Rattle.plan.specs.Plan.{planOf};
 ghost use Prim.Native.Nat.{_≤_};
 ghost use lib.ListN.{length};

@@ -5,7 +5,7 @@ use native.Mathlib.Omega.{arith}
 use borrow.Author.Needs.{needs}
 use Rattle.port.specs.Run.{stateOf, ran}
 use Rattle.port.specs.RunLaws.{written, stepped-by, stepped-as, goes-on, ran-out, written-out}
-use Rattle.port.specs.Idle.{idle-step}
+use Rattle.port.specs.Quiet.{idle-step}
 use Rattle.port.proofs.Quiet.{quiet}
 use Rattle.port.proofs.take_words.Statement.{statement}
 use Rattle.port.proofs.take_words.Tie as tie

@@ -1,4 +1,4 @@
--- A NOP at rest (01, "Packets"): only the held next reply changes. A run of packets takes a short way for it.
+-- Packets that leave the board and memory alone (01, "Packets"): those for which no command works, and a NOP at rest. A run takes a short way for them.
 use Prim.Native.Nat.{ℕ}
 use mathlib.Core.Path.{_≡_, refl, ap}
 use mathlib.Core.Bool.{Bool, true, false}
@@ -11,11 +11,20 @@ use Rattle.board.specs.declared.Place.{Place}
 use Rattle.board.specs.declared.Phase.{Phase}
 use Rattle.board.specs.declared.Phase.the-variants.{Rest, Due, Waiting, Low}
 use Rattle.board.specs.declared.Chain.{Chain}
-use Rattle.plan.specs.declared.Plan.the-variants.{Work}
+use Rattle.plan.specs.declared.Plan.{Plan}
+use Rattle.plan.specs.declared.Plan.the-variants.{Hold, Reject, Release, Work}
 use Rattle.command.specs.declared.Command.the-variants.{Nop}
 use Rattle.plan.specs.Plan.{planOf, begun, collected, ready}
-use Rattle.port.specs.Packets.{planFor, boardNext, placeNext, memoryNext}
+use Rattle.port.specs.Packets.{holding, rejected, released, planFor, boardNext, placeNext, memoryNext}
 
+-- the place after a packet for which no command works
+abbrev pub quietly : Plan → Place → Place
+quietly (Hold phase) p = holding p phase
+quietly Reject p = rejected p
+quietly (Release low) p = released p low
+quietly (Work c address value) p = p
+
+-- a NOP at rest, after which only the held next reply is another
 abbrev pub idle : Phase → ℕ → Bool
 idle Rest word = eqb word 0
 idle (Due c left taken) word = false
