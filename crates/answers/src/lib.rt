@@ -12,9 +12,13 @@ use port::Outcome;
 use trigger::Access;
 use trigger::Bus;
 use trigger::Event;
-ghost use Prim.Native.Nat.{_≤_};
+ghost use Prim.Native.Nat.{min};
 ghost use mathlib.Core.Path.{_≡_};
-ghost use Rattle.board.specs.Board.{freshBoard, freshPlace};
+ghost use Rattle.board.specs.Board.{freshBoard, freshPlace, makingVerdict};
+ghost use Rattle.port.specs.Packets.{packetVerdict, boardNext, placeNext, memoryNext, unless};
+ghost use Rattle.bus.specs.Events.{boardAfterEvent, boardAfterBreakpoint};
+ghost use Rattle.answers.specs.Bench.{access, benchOf, benchLeft};
+ghost use Rattle.lines.specs.declared.BoardLine.the-variants.{Packet};
 
 mod state;
 
@@ -33,7 +37,7 @@ pub struct Answered {
 
 // As it starts: `make 0` with no memory.
 pub fn opened() -> Bench
-    ensures { λ r. ⌜ (r .board ≡ freshBoard 0) × (r .place ≡ freshPlace) × (r .lent ≡ 0) ⌝ }
+    ensures { λ r. ⌜ r ≡ benchOf (freshBoard 0) freshPlace 0 ⌝ }
 {
     let made = board::make(0);
     let board = made.board;
@@ -47,7 +51,7 @@ pub fn opened() -> Bench
 
 // An answer that ends there, and the bench as it is from then on.
 pub fn bench_after(board: Board, place: Place, lent: usize, end: usize) -> Answered
-    ensures { λ r. ⌜ (r .bench .board ≡ board) × (r .bench .place ≡ place) × (r .bench .lent ≡ lent) × (r .end ≡ end) ⌝ }
+    ensures { λ r. ⌜ (r .bench ≡ benchOf board place lent) × (r .end ≡ end) ⌝ }
 {
     Answered {
         bench: Bench {
@@ -66,7 +70,9 @@ fn put_flag(text: &mut [u8], at: usize, flag: bool) -> usize {
     console::put_byte(text, at, b'0')
 }
 
-fn make(w: u32, bench: Bench, text: &mut [u8]) -> Answered {
+fn make(w: u32, bench: Bench, text: &mut [u8]) -> Answered
+    ensures { λ r. ⌜ r .bench ≡ benchOf (unless (makingVerdict w) (freshBoard w) (bench .board)) (unless (makingVerdict w) freshPlace (bench .place)) (bench .lent) ⌝ }
+{
     let made = board::make(w);
     let verdict = made.verdict;
     let board = made.board;
@@ -97,7 +103,9 @@ fn clear(memory: &mut [u8], count: usize) {
     }
 }
 
-fn lend(n: u32, bench: Bench, memory: &mut [u8], text: &mut [u8]) -> Answered {
+fn lend(n: u32, bench: Bench, memory: &mut [u8], text: &mut [u8]) -> Answered
+    ensures { λ r. ⌜ r .bench ≡ benchOf (bench .board) (bench .place) n ⌝ }
+{
     let count = n as usize;
     clear(memory, count);
     let at = console::put_text(text, 0, b"memory ");
@@ -146,7 +154,9 @@ fn put_bytes(
     bench: Bench,
     memory: &mut [u8],
     text: &mut [u8],
-) -> Answered {
+) -> Answered
+    ensures { λ r. ⌜ r .bench ≡ bench ⌝ }
+{
     if is_lent(address, count, bench.lent) {
         copy_bytes(line, start, count, memory, address as usize);
         let at = console::put_text(text, 0, b"bytes ");
@@ -161,7 +171,9 @@ fn put_bytes(
     }
 }
 
-fn show_bytes(address: u32, count: u32, bench: Bench, memory: &[u8], text: &mut [u8]) -> Answered {
+fn show_bytes(address: u32, count: u32, bench: Bench, memory: &[u8], text: &mut [u8]) -> Answered
+    ensures { λ r. ⌜ r .bench ≡ bench ⌝ }
+{
     if is_lent(address, count as usize, bench.lent) {
         let at = console::put_text(text, 0, b"peek ");
         return Answered {
@@ -203,7 +215,7 @@ fn put_memory(memory: &[u8], from: usize, count: u32, text: &mut [u8], at: usize
 
 // The bytes lent, of those that there are.
 fn lent_of(lent: usize, most: usize) -> usize
-    ensures { λ r. ⌜ r ≤ most ⌝ }
+    ensures { λ r. ⌜ r ≡ min lent most ⌝ }
 {
     if lent <= most {
         return lent;
@@ -211,7 +223,9 @@ fn lent_of(lent: usize, most: usize) -> usize
     most
 }
 
-fn take_word(word: u32, bench: Bench, memory: &mut [u8], text: &mut [u8]) -> Answered {
+fn take_word(word: u32, bench: Bench, memory: &mut [u8], text: &mut [u8]) -> Answered
+    ensures { λ r. ⌜ r .bench ≡ benchOf (unless (packetVerdict (bench .board) (bench .place) (now (memory .entry)) word) (boardNext (bench .board) (bench .place) word) (bench .board)) (unless (packetVerdict (bench .board) (bench .place) (now (memory .entry)) word) (placeNext (bench .board) (bench .place) (now (memory .entry)) word) (bench .place)) (bench .lent) ⌝ }
+{
     let board = bench.board;
     let place = bench.place;
     let answer = port::take_packet(board, place, memory, word);
@@ -264,7 +278,9 @@ fn put_event(text: &mut [u8], outcome: EventOutcome) -> usize {
     }
 }
 
-fn watch(event: Event, bench: Bench, text: &mut [u8]) -> Answered {
+fn watch(event: Event, bench: Bench, text: &mut [u8]) -> Answered
+    ensures { λ r. ⌜ r .bench ≡ benchOf (boardAfterEvent (bench .board) (bench .place) event) (bench .place) (bench .lent) ⌝ }
+{
     let board = bench.board;
     let place = bench.place;
     let answer = bus::take_event(board, place, event);
@@ -286,7 +302,9 @@ fn put_breakpoint(text: &mut [u8], outcome: BreakpointOutcome) -> usize {
     }
 }
 
-fn press(bench: Bench, text: &mut [u8]) -> Answered {
+fn press(bench: Bench, text: &mut [u8]) -> Answered
+    ensures { λ r. ⌜ r .bench ≡ benchOf (boardAfterBreakpoint (bench .board) (bench .place)) (bench .place) (bench .lent) ⌝ }
+{
     let board = bench.board;
     let place = bench.place;
     let answer = bus::press_breakpoint(board, place);
@@ -296,7 +314,9 @@ fn press(bench: Bench, text: &mut [u8]) -> Answered {
     bench_after(board_next, place, bench.lent, end)
 }
 
-fn tell_state(bench: Bench, text: &mut [u8]) -> Answered {
+fn tell_state(bench: Bench, text: &mut [u8]) -> Answered
+    ensures { λ r. ⌜ r .bench ≡ bench ⌝ }
+{
     let board = bench.board;
     let place = bench.place;
     Answered {
@@ -305,7 +325,9 @@ fn tell_state(bench: Bench, text: &mut [u8]) -> Answered {
     }
 }
 
-fn carrying(pc: u32, address: u32, attribute: u32, lanes: u32) -> Event {
+fn carrying(pc: u32, address: u32, attribute: u32, lanes: u32) -> Event
+    ensures { λ r. ⌜ r ≡ access pc address attribute lanes ⌝ }
+{
     Event {
         pc: pc,
         bus: Bus::Carries(Access {
@@ -316,7 +338,9 @@ fn carrying(pc: u32, address: u32, attribute: u32, lanes: u32) -> Event {
     }
 }
 
-fn packet_line(word: u32, bench: Bench, memory: &mut [u8], text: &mut [u8]) -> Answered {
+fn packet_line(word: u32, bench: Bench, memory: &mut [u8], text: &mut [u8]) -> Answered
+    ensures { λ r. ⌜ r .bench ≡ benchLeft (Packet word) bench (now (memory .entry)) ⌝ }
+{
     let n = lent_of(bench.lent, memory.len());
     take_word(word, bench, &mut memory[..n], text)
 }
@@ -328,7 +352,9 @@ pub fn answer_line(
     bench: Bench,
     memory: &mut [u8],
     text: &mut [u8],
-) -> Answered {
+) -> Answered
+    ensures { λ r. ⌜ r .bench ≡ benchLeft asked bench (now (memory .entry)) ⌝ }
+{
     match asked {
         BoardLine::Nothing => Answered {
             bench: bench,

@@ -1,3 +1,4 @@
+use Rattle.answers.specs.BenchLaws.{lent-part}
 use lib.ListN.{length-take}
 use native.Mathlib.Omega.{arith}
 use borrow.Author.Needs.{needs}
@@ -23,7 +24,7 @@ same-length-2 : tie.Need-same-length-2
 same-length-2 c = search needs
 
 returns : tie.Need-returns
-returns c = search needs
+returns c = rw (← lent-part _ _ _ (c .before .before .before .before .before .before .before .lent-of .ensures)) (c .before .before .before .before .take-word .ensures)
 
 pub packet-line-spec : {M : Type 1} → statement M
 packet-line-spec =

@@ -1,0 +1,48 @@
+-- Laws of the bench: what making leaves is what the line says, and the bytes lent are those that there are.
+use Prim.Native.Nat.{ℕ, min}
+use mathlib.Core.Path.{_≡_, refl, sym, _∙_}
+use mathlib.Core.Bool.{Bool, true, false, cond}
+use mathlib.Core.List.{List}
+use native.Mathlib.Omega.{arith}
+use borrow.Author.Tests.{leb-true, leb-false}
+use lib.Dec.{leb}
+use lib.ListN.{length, take}
+use lib.Seq.{take-all}
+use Rattle.grounds.specs.declared.Ground.{Ground}
+use Rattle.grounds.specs.declared.Ground.the-variants.{WaitTooLarge}
+use Rattle.grounds.specs.declared.Verdict.{Verdict}
+use Rattle.grounds.specs.declared.Verdict.the-variants.{Accepted, Refused}
+use Rattle.grounds.specs.GroundLaws.{told-once}
+use Rattle.board.specs.declared.Board.{Board}
+use Rattle.board.specs.declared.Place.{Place}
+use Rattle.board.specs.declared.Made.{Made}
+use Rattle.board.specs.Board.{freshBoard, freshPlace, makingVerdict, settingMade, MakingMeets}
+use Rattle.port.specs.Packets.{unless}
+
+-- a board that is made has the setting asked for
+setting-asked : (w : ℕ) → makingVerdict w ≡ Accepted → settingMade w ≡ w
+setting-asked w e = split (leb w 15) e
+  where
+    split : (t : Bool) → cond t Accepted (Refused WaitTooLarge) ≡ Accepted → cond t w 0 ≡ w
+    split true e = refl
+    split false e = cc
+
+judged : {w : ℕ} {made : Made} {v : Verdict} → MakingMeets w made → made .verdict ≡ v → makingVerdict w ≡ v
+judged {w} {made} making e = sym (told-once (made .verdict) (makingVerdict w) (making .answer)) ∙ e
+
+pub made-anew : {w : ℕ} {made : Made} (b : Board) (p : Place) → MakingMeets w made → made .verdict ≡ Accepted
+    → (made .board ≡ unless (makingVerdict w) (freshBoard w) b) × (made .place ≡ unless (makingVerdict w) freshPlace p)
+made-anew {w} b p making e = let accepted = judged making e in (rw (accepted, ← setting-asked w accepted) (making .board), rw accepted (making .place))
+
+pub kept-old : {w : ℕ} {made : Made} {g : Ground} (b : Board) (p : Place) → MakingMeets w made → made .verdict ≡ Refused g
+    → (b ≡ unless (makingVerdict w) (freshBoard w) b) × (p ≡ unless (makingVerdict w) freshPlace p)
+kept-old b p making e = let refused = judged making e in (rw refused, rw refused)
+
+pub lent-part : (lent n : ℕ) (m : List ℕ) → n ≡ min lent (length m) → take n m ≡ take lent m
+lent-part lent n m e = split (leb lent (length m)) refl
+  where
+    split : (t : Bool) → leb lent (length m) ≡ t → take n m ≡ take lent m
+    split true h = let all : n ≡ lent = omega (arith, e, leb-true lent (length m) h) in rw all
+    split false h =
+        let beyond = leb-false lent (length m) h in
+        take-all n m (omega (arith, e, beyond)) ∙ sym (take-all lent m (omega (arith, beyond)))
