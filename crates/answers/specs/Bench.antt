@@ -73,3 +73,35 @@ benchLeft asked bench memory =
     (boardLeft asked (bench .board) (bench .place) (take (bench .lent) memory))
     (placeLeft asked (bench .board) (bench .place) (take (bench .lent) memory))
     (lentLeft asked (bench .lent))
+
+-- "put at A by the bench itself, not through the port": the lines by which the bench itself writes memory
+abbrev pub isOwn : BoardLine → Bool
+isOwn Nothing = false
+isOwn (Make w) = false
+isOwn (Memory n) = true
+isOwn (Bytes address from count) = true
+isOwn (Packet word) = false
+isOwn (EventLine pc) = false
+isOwn (EventWithAccess pc address attribute lanes) = false
+isOwn Breakpoint = false
+isOwn (Peek address count) = false
+isOwn State = false
+isOwn Unclear = false
+
+-- the memory that a packet leaves, of what it was lent
+abbrev pub writtenBy : ℕ → Board → Place → List ℕ → List ℕ
+writtenBy word b p m = unless (packetVerdict b p m word) (memoryNext b p m word) m
+
+-- else memory stays
+abbrev pub memoryLeft : BoardLine → Bench → List ℕ → List ℕ
+memoryLeft Nothing bench m = m
+memoryLeft (Make w) bench m = m
+memoryLeft (Memory n) bench m = m
+memoryLeft (Bytes address from count) bench m = m
+memoryLeft (Packet word) bench m = writtenBy word (bench .board) (bench .place) (take (bench .lent) m) ++ drop (bench .lent) m
+memoryLeft (EventLine pc) bench m = m
+memoryLeft (EventWithAccess pc address attribute lanes) bench m = m
+memoryLeft Breakpoint bench m = m
+memoryLeft (Peek address count) bench m = m
+memoryLeft State bench m = m
+memoryLeft Unclear bench m = m

@@ -1,12 +1,12 @@
 -- Laws of the bench: what making leaves is what the line says, and the bytes lent are those that there are.
-use Prim.Native.Nat.{ℕ, min}
+use Prim.Native.Nat.{ℕ, _≤_, min}
 use mathlib.Core.Path.{_≡_, refl, sym, _∙_}
 use mathlib.Core.Bool.{Bool, true, false, cond}
 use mathlib.Core.List.{List}
 use native.Mathlib.Omega.{arith}
 use borrow.Author.Tests.{leb-true, leb-false}
 use lib.Dec.{leb}
-use lib.ListN.{length, take}
+use lib.ListN.{length, take, drop, drop-of-length-le}
 use lib.Seq.{take-all}
 use Rattle.grounds.specs.declared.Ground.{Ground}
 use Rattle.grounds.specs.declared.Ground.the-variants.{WaitTooLarge}
@@ -38,11 +38,14 @@ pub kept-old : {w : ℕ} {made : Made} {g : Ground} (b : Board) (p : Place) → 
     → (b ≡ unless (makingVerdict w) (freshBoard w) b) × (p ≡ unless (makingVerdict w) freshPlace p)
 kept-old b p making e = let refused = judged making e in (rw refused, rw refused)
 
-pub lent-part : (lent n : ℕ) (m : List ℕ) → n ≡ min lent (length m) → take n m ≡ take lent m
+-- the bytes lent, of those that there are, and the rest
+pub lent-part : (lent n : ℕ) (m : List ℕ) → n ≡ min lent (length m) → (take n m ≡ take lent m) × (drop n m ≡ drop lent m)
 lent-part lent n m e = split (leb lent (length m)) refl
   where
-    split : (t : Bool) → leb lent (length m) ≡ t → take n m ≡ take lent m
-    split true h = let all : n ≡ lent = omega (arith, e, leb-true lent (length m) h) in rw all
+    split : (t : Bool) → leb lent (length m) ≡ t → (take n m ≡ take lent m) × (drop n m ≡ drop lent m)
+    split true h = let all : n ≡ lent = omega (arith, e, leb-true lent (length m) h) in (rw all, rw all)
     split false h =
         let beyond = leb-false lent (length m) h in
-        take-all n m (omega (arith, e, beyond)) ∙ sym (take-all lent m (omega (arith, beyond)))
+        let end : length m ≤ n = omega (arith, e, beyond) in
+        let past : length m ≤ lent = omega (arith, beyond) in
+        (take-all n m end ∙ sym (take-all lent m past), drop-of-length-le m end ∙ sym (drop-of-length-le m past))

@@ -14,10 +14,11 @@ use trigger::Bus;
 use trigger::Event;
 ghost use Prim.Native.Nat.{min};
 ghost use mathlib.Core.Path.{_≡_};
+ghost use mathlib.Core.Bool.{false};
 ghost use Rattle.board.specs.Board.{freshBoard, freshPlace, makingVerdict};
 ghost use Rattle.port.specs.Packets.{packetVerdict, boardNext, placeNext, memoryNext, unless};
 ghost use Rattle.bus.specs.Events.{boardAfterEvent, boardAfterBreakpoint};
-ghost use Rattle.answers.specs.Bench.{access, benchOf, benchLeft};
+ghost use Rattle.answers.specs.Bench.{access, benchOf, benchLeft, isOwn, writtenBy, memoryLeft};
 ghost use Rattle.lines.specs.declared.BoardLine.the-variants.{Packet};
 
 mod state;
@@ -224,7 +225,7 @@ fn lent_of(lent: usize, most: usize) -> usize
 }
 
 fn take_word(word: u32, bench: Bench, memory: &mut [u8], text: &mut [u8]) -> Answered
-    ensures { λ r. ⌜ r .bench ≡ benchOf (unless (packetVerdict (bench .board) (bench .place) (now (memory .entry)) word) (boardNext (bench .board) (bench .place) word) (bench .board)) (unless (packetVerdict (bench .board) (bench .place) (now (memory .entry)) word) (placeNext (bench .board) (bench .place) (now (memory .entry)) word) (bench .place)) (bench .lent) ⌝ }
+    ensures { λ r. ⌜ (r .bench ≡ benchOf (unless (packetVerdict (bench .board) (bench .place) (now (memory .entry)) word) (boardNext (bench .board) (bench .place) word) (bench .board)) (unless (packetVerdict (bench .board) (bench .place) (now (memory .entry)) word) (placeNext (bench .board) (bench .place) (now (memory .entry)) word) (bench .place)) (bench .lent)) × (now (memory .exit) ≡ writtenBy word (bench .board) (bench .place) (now (memory .entry))) ⌝ }
 {
     let board = bench.board;
     let place = bench.place;
@@ -339,7 +340,7 @@ fn carrying(pc: u32, address: u32, attribute: u32, lanes: u32) -> Event
 }
 
 fn packet_line(word: u32, bench: Bench, memory: &mut [u8], text: &mut [u8]) -> Answered
-    ensures { λ r. ⌜ r .bench ≡ benchLeft (Packet word) bench (now (memory .entry)) ⌝ }
+    ensures { λ r. ⌜ (r .bench ≡ benchLeft (Packet word) bench (now (memory .entry))) × (now (memory .exit) ≡ memoryLeft (Packet word) bench (now (memory .entry))) ⌝ }
 {
     let n = lent_of(bench.lent, memory.len());
     take_word(word, bench, &mut memory[..n], text)
@@ -353,7 +354,7 @@ pub fn answer_line(
     memory: &mut [u8],
     text: &mut [u8],
 ) -> Answered
-    ensures { λ r. ⌜ r .bench ≡ benchLeft asked bench (now (memory .entry)) ⌝ }
+    ensures { λ r. ⌜ (r .bench ≡ benchLeft asked bench (now (memory .entry))) × (isOwn asked ≡ false → now (memory .exit) ≡ memoryLeft asked bench (now (memory .entry))) ⌝ }
 {
     match asked {
         BoardLine::Nothing => Answered {

@@ -24,7 +24,7 @@ same-length-2 : tie.Need-same-length-2
 same-length-2 c = search needs
 
 returns : tie.Need-returns
-returns c = rw (← lent-part _ _ _ (c .before .before .before .before .before .before .before .lent-of .ensures)) (c .before .before .before .before .take-word .ensures)
+returns c = let at = c .before .before .before .before .before .before .before .before .before .before .args in let part = lent-part (at .bench .lent) (c .before .before .before .before .before .before .before .lent-of .result) (at .memory .now) (c .before .before .before .before .before .before .before .lent-of .ensures) in let taken = c .before .before .before .before .take-word .ensures in (rw (← part .0) (taken .0), rw (← part .0, ← part .1, taken .1))
 
 pub packet-line-spec : {M : Type 1} → statement M
 packet-line-spec =

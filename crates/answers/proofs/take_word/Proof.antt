@@ -18,7 +18,7 @@ same-length-2 : tie.Need-same-length-2
 same-length-2 c = search needs
 
 returns : tie.Need-returns
-returns c = let taken = c .before .before .before .before .before .before .before .before .before .take-packet .ensures in rw (← taken .board, ← taken .place) (c .bench-after .ensures .0)
+returns c = let taken = c .before .before .before .before .before .before .before .before .before .take-packet .ensures in (rw (← taken .board, ← taken .place) (c .bench-after .ensures .0), taken .memory)
 
 pub take-word-spec : {M : Type 1} → statement M
 take-word-spec =
