@@ -1,6 +1,5 @@
 -- What a line leaves of the bench (the desk's language, `stand_in`): the board, the place, how many bytes are lent, and memory.
 use Prim.Native.Nat.{ℕ, _%_}
-use mathlib.Core.Path.{_≡_}
 use mathlib.Core.Bool.{Bool, true, false}
 use mathlib.Core.List.{List, _++_}
 use lib.ListN.{take, drop}

@@ -16,7 +16,7 @@ ghost use Prim.Native.Nat.{min};
 ghost use mathlib.Core.Path.{_≡_};
 ghost use mathlib.Core.Bool.{false};
 ghost use Rattle.board.specs.Board.{freshBoard, freshPlace, makingVerdict};
-ghost use Rattle.port.specs.Packets.{packetVerdict, boardNext, placeNext, memoryNext, unless};
+ghost use Rattle.port.specs.Packets.{packetVerdict, boardNext, placeNext, unless};
 ghost use Rattle.bus.specs.Events.{boardAfterEvent, boardAfterBreakpoint};
 ghost use Rattle.answers.specs.Bench.{access, benchOf, benchLeft, isOwn, writtenBy, memoryLeft};
 ghost use Rattle.lines.specs.declared.BoardLine.the-variants.{Packet};

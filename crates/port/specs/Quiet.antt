@@ -1,6 +1,6 @@
 -- Packets that leave the board and memory alone (01, "Packets"): those for which no command works, and a NOP at rest. A run takes a short way for them.
 use Prim.Native.Nat.{ℕ}
-use mathlib.Core.Path.{_≡_, refl, ap}
+use mathlib.Core.Path.{_≡_, refl}
 use mathlib.Core.Bool.{Bool, true, false}
 use mathlib.Core.List.{List}
 use lib.Dec.{eqb}

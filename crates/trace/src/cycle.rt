@@ -1,8 +1,6 @@
 // One recorded cycle: what the cycles before it have left under way, what it gives, and what it leaves.
 ghost use mathlib.Core.Path.{_≡_};
 ghost use Prim.Native.Nat.{_+_, _-_};
-ghost use mathlib.Core.Bool.{cond};
-ghost use lib.Dec.{ltb};
 ghost use Rattle.trace.specs.Cycle.{nothing, reserved, single, marker, nibbles, ddata, valueEnding, givesOwn, tooSoon, after};
 
 // What is under way where a cycle begins: the latest marker, how many of its nibbles are still due

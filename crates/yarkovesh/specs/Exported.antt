@@ -1,6 +1,6 @@
 -- What programs in other languages are answered: a run of packets on a fresh board, and the listing of a trace (01), each answer one number.
 use Prim.Native.Nat.{ℕ, _+_, _*_, _%_, _^_}
-use mathlib.Core.Path.{_≡_, sym, _∙_}
+use mathlib.Core.Path.{_≡_}
 use mathlib.Core.List.{List, _++_}
 use lib.ListN.{length, drop}
 use Rattle.grounds.specs.declared.Verdict.{Verdict}

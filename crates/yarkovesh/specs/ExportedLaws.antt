@@ -2,10 +2,9 @@
 use Prim.Native.Nat.{ℕ}
 use mathlib.Core.Path.{_≡_, sym, ap, _∙_, subst₂}
 use mathlib.Core.List.{List}
-use lib.ListN.{length}
 use Rattle.grounds.specs.declared.Ground.{Ground}
 use Rattle.grounds.specs.declared.Verdict.the-variants.{Accepted, Refused}
-use Rattle.grounds.specs.Grounds.{told, number}
+use Rattle.grounds.specs.Grounds.{number}
 use Rattle.grounds.specs.GroundLaws.{told-once}
 use Rattle.board.specs.declared.Board.{Board}
 use Rattle.board.specs.declared.Place.{Place}
@@ -13,7 +12,7 @@ use Rattle.board.specs.declared.Made.{Made}
 use Rattle.board.specs.Board.{freshBoard, freshPlace, makingVerdict, settingMade, MakingMeets}
 use Rattle.port.specs.declared.Ran.{Ran}
 use Rattle.port.specs.Run.{RunMeets}
-use Rattle.yarkovesh.specs.Exported.{verdictNumber, freshVerdict, FreshRunMeets, ListMeets}
+use Rattle.yarkovesh.specs.Exported.{verdictNumber, FreshRunMeets, ListMeets}
 
 -- a run on the board that was made
 pub run-is-fresh : {w : ℕ} {m words before left out : List ℕ} {made : Made} {r : Ran} → MakingMeets w made → made .verdict ≡ Accepted

@@ -1,7 +1,6 @@
 // For programs in other languages: a run of packets on a fresh board, and the listing of a trace. `rt staticlib yarkovesh` writes the archive.
 ghost use mathlib.Core.Path.{_≡_};
 ghost use Rattle.yarkovesh.specs.Exported.{verdictNumber, listingNumber, FreshRunMeets, ListMeets};
-ghost use Rattle.port.specs.Run.{runVerdict, stateOf, ran, replies};
 ghost use Rattle.trace.specs.Listing.{told};
 use grounds::Verdict;
 use trace::listing;
