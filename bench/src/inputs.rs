@@ -1,5 +1,6 @@
 //! What is measured: a pod's packets and a recorded trace, the same in every run.
 
+use second::board::Board;
 use second::command::{Size, CONTROL_REGISTERS};
 use second::pod::Request;
 use second::random::Rng;
@@ -9,18 +10,30 @@ pub const MEMORY: usize = 65_536;
 pub const PACKETS: usize = 65_536;
 pub const CYCLES: usize = 65_536;
 
-/// Requests of a desk's morning: mostly the slot table, in chains, and registers between. Each is followed by as many NOPs as carry its
-/// reply out.
+/// Requests of a desk's morning: mostly the slot table, in chains, and registers between. Each is followed by the NOPs that it needs and no
+/// more: until the port is at rest, and one that carries the closing reply out, as `talk` sends them.
 pub fn packets() -> Vec<u32> {
     let mut rng = Rng::new(1);
+    let mut board = Board::make(WAIT).expect("the setting is in range");
+    let mut memory = vec![0; MEMORY];
     let mut packets = Vec::with_capacity(PACKETS + 16);
     while packets.len() < PACKETS {
-        let request = request(&mut rng);
-        packets.extend(request.build().expect("the fields are in range"));
-        packets.extend([0; WAIT as usize + 2]);
+        let words = request(&mut rng).build().expect("the fields are in range");
+        for word in words {
+            send(&mut board, &mut memory, &mut packets, word);
+        }
+        while !board.is_at_rest() {
+            send(&mut board, &mut memory, &mut packets, 0);
+        }
+        send(&mut board, &mut memory, &mut packets, 0);
     }
     packets.truncate(PACKETS);
     packets
+}
+
+fn send(board: &mut Board, memory: &mut [u8], packets: &mut Vec<u32>, word: u32) {
+    board.run(memory, &[word], &mut [0]).expect("the packet is within its limits");
+    packets.push(word);
 }
 
 fn request(rng: &mut Rng) -> Request {

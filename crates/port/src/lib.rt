@@ -235,7 +235,7 @@ fn judge_run(board: Board, place: Place, memory: &[u8], words: &[u32], room: usi
     Verdict::Refused(Ground::StateOutOfRange)
 }
 
-// A NOP at rest, as most packets of a pod are.
+// A NOP at rest: one carries the closing reply of each request out.
 fn is_idle(place: Place, word: u32) -> bool
     ensures { λ r. ⌜ r ≡ idle (place .phase) word ⌝ }
 {

@@ -47,7 +47,7 @@ pub fn is_marker(pst: u8) -> bool
     pst < 12
 }
 
-// A bit for each PST below 8: in a trace no jump on it could be foreseen.
+// A bit for each PST below 8, and no jump.
 fn is_single(pst: u8) -> bool
     ensures { λ r. ⌜ r ≡ single pst ⌝ }
 {
