@@ -77,7 +77,7 @@ fn join(upper: u16, low: u16) -> u32
     (upper as u32) * 65536 + (low as u32)
 }
 
-fn take_operand(taken: Operands, word: u16) -> Operands
+pub fn take_operand(taken: Operands, word: u16) -> Operands
     ensures { λ r. ⌜ r ≡ withOperand taken word ⌝ }
 {
     Operands {

@@ -8,4 +8,6 @@ pub mod SoundPlan
 pub mod SoundWork
 pub mod SoundLaws
 pub mod Examples
+pub mod Both
 pub mod Quiet
+pub mod QuietLaws

@@ -1,21 +1,33 @@
--- Packets that leave the board and memory alone (01, "Packets"): those for which no command works, and a NOP at rest. A run takes a short way for them.
-use Prim.Native.Nat.{ℕ}
-use mathlib.Core.Path.{_≡_, refl}
-use mathlib.Core.Bool.{Bool, true, false}
-use mathlib.Core.List.{List}
-use lib.Dec.{eqb}
-use borrow.Author.Tests.{eqb-true}
-use Rattle.command.specs.Command.{decoded, decodedWord}
-use Rattle.board.specs.declared.Board.{Board}
+-- What leaves the board alone (01, "Packets"): some commands' work, and packets for which no command works. A run takes short ways for them.
+use Prim.Native.Nat.{ℕ, _-_}
+use mathlib.Core.Bool.{Bool, true, false, _&&_}
+use lib.Dec.{eqb, leb}
+use Rattle.command.specs.declared.Command.{Command}
+use Rattle.command.specs.declared.Command.the-variants.{Unknown, Rdreg, Wdreg, Read, Write, Dump, Fill, Go, Nop, SyncPc, Rcreg, Wcreg, Rdmreg, Wdmreg}
 use Rattle.board.specs.declared.Place.{Place}
 use Rattle.board.specs.declared.Phase.{Phase}
 use Rattle.board.specs.declared.Phase.the-variants.{Rest, Due, Waiting, Low}
-use Rattle.board.specs.declared.Chain.{Chain}
 use Rattle.plan.specs.declared.Plan.{Plan}
 use Rattle.plan.specs.declared.Plan.the-variants.{Hold, Reject, Release, Work}
-use Rattle.command.specs.declared.Command.the-variants.{Nop}
-use Rattle.plan.specs.Plan.{planOf, begun, collected, ready}
-use Rattle.port.specs.Packets.{holding, rejected, released, planFor, boardNext, placeNext, memoryNext}
+use Rattle.plan.specs.Plan.{withOperand}
+use Rattle.port.specs.Packets.{holding, rejected, released}
+
+-- the commands whose work leaves the board alone
+abbrev pub leavesBoard : Command → Bool
+leavesBoard Unknown = true
+leavesBoard (Rdreg n) = true
+leavesBoard (Wdreg n) = false
+leavesBoard (Read s) = true
+leavesBoard (Write s) = true
+leavesBoard (Dump s) = true
+leavesBoard (Fill s) = true
+leavesBoard Go = false
+leavesBoard Nop = true
+leavesBoard SyncPc = false
+leavesBoard Rcreg = true
+leavesBoard Wcreg = false
+leavesBoard Rdmreg = false
+leavesBoard (Wdmreg r) = false
 
 -- the place after a packet for which no command works
 abbrev pub quietly : Plan → Place → Place
@@ -24,30 +36,19 @@ quietly Reject p = rejected p
 quietly (Release low) p = released p low
 quietly (Work c address value) p = p
 
--- a NOP at rest, after which only the held next reply is another
-abbrev pub idle : Phase → ℕ → Bool
-idle Rest word = eqb word 0
-idle (Due c left taken) word = false
-idle (Waiting c left address value) word = false
-idle (Low low) word = false
-
+-- only the held next reply is another
 abbrev pub idled : Place → Place
 idled p = record { phase = Rest; chain = p .chain; pointer = p .pointer; next = 0x0FFFF }
 
--- a NOP is legal whatever the chain and whether the processor runs, and works at once
-nop-plan : (halted : Bool) (chain : Chain) (w : ℕ) → planOf Rest halted chain w 0 ≡ Work Nop 0 0
-unfolding begun collected ready decoded decodedWord
-nop-plan true chain w = refl
-nop-plan false chain w = refl
+-- the place alone decides a NOP at rest, an operand word but the last, and the packet that brings the low result word
+abbrev pub brief : Phase → ℕ → Bool
+brief Rest word = eqb word 0
+brief (Due c left taken) word = leb 2 left && leb word 0xFFFF
+brief (Waiting c left address value) word = false
+brief (Low low) word = true
 
-idle-plan : (phase : Phase) (halted : Bool) (chain : Chain) (w word : ℕ) → idle phase word ≡ true → planOf phase halted chain w word ≡ Work Nop 0 0
-idle-plan Rest halted chain w word e = rw (eqb-true word 0 e) (nop-plan halted chain w)
-idle-plan (Due c left taken) halted chain w word e = cc
-idle-plan (Waiting c left address value) halted chain w word e = cc
-idle-plan (Low low) halted chain w word e = cc
-
--- the step of an idle packet
-pub idle-step : (b : Board) (p : Place) (m : List ℕ) (word : ℕ) → idle (p .phase) word ≡ true
-    → (b ≡ boardNext b p word) × (idled p ≡ placeNext b p m word) × (m ≡ memoryNext b p m word)
-unfolding planFor boardNext placeNext memoryNext
-idle-step b p m word e = let plan = idle-plan (p .phase) (b .status .halted) (p .chain) (b .w) word e in (rw plan, rw plan, rw plan)
+abbrev pub briefly : Phase → Place → ℕ → Place
+briefly Rest p word = idled p
+briefly (Due c left taken) p word = holding p (Due c (left - 1) (withOperand taken word))
+briefly (Waiting c left address value) p word = p
+briefly (Low low) p word = released p low

@@ -52,9 +52,15 @@ pub goes-on : (words : List ℕ) (i : ℕ) (s : State) {next : State} (out : Lis
     → (ran (drop (i + 1) words) next ≡ ran (drop i words) s) × (written (drop (i + 1) words) (i + 1) next (set out i (replyNow (s .place))) ≡ written (drop i words) i s out)
 goes-on words i s out h step = (rw step (sym (ran-on words i s h)), rw step (sym (written-on words i s out h)))
 
-pub within-on : (words : List ℕ) (i : ℕ) → i < length words → allWithin (drop i words) ≡ (leb (getD words i 0) 0x1FFFF && allWithin (drop (i + 1) words))
+pub within-on : (words : List ℕ) (i : ℕ) (within : Bool) → i < length words
+    → ((leb (getD words i 0) 0x1FFFF && within) && allWithin (drop (i + 1) words)) ≡ (within && allWithin (drop i words))
 unfolding allWithin
-within-on words i h = rw (add-one i, drop-cons words i 0 h)
+within-on words i within h = rw (add-one i, drop-cons words i 0 h) (turned (leb (getD words i 0) 0x1FFFF) within (allWithin (drop (suc i) words)))
+  where
+    turned : (x y z : Bool) → ((x && y) && z) ≡ (y && (x && z))
+    turned true y z = refl
+    turned false true z = refl
+    turned false false z = refl
 
 -- the words are done
 pub ran-out : (words : List ℕ) (i : ℕ) (s : State) → length words ≤ i → ran (drop i words) s ≡ s
@@ -65,9 +71,10 @@ pub written-out : (words : List ℕ) (i j : ℕ) (s : State) (out : List ℕ) �
 unfolding written
 written-out words i j s out h = rw (drop-of-length-le words h)
 
-pub within-out : (words : List ℕ) (i : ℕ) → length words ≤ i → allWithin (drop i words) ≡ true
+pub within-out : (words : List ℕ) (i : ℕ) (within : Bool) → length words ≤ i → (within && allWithin (drop i words)) ≡ within
 unfolding allWithin
-within-out words i h = rw (drop-of-length-le words h)
+within-out words i true h = rw (drop-of-length-le words h)
+within-out words i false h = refl
 
 -- the replies stand at the front, one for each word, and what was beyond them stays
 pub written-from : (words : List ℕ) (i : ℕ) (s : State) (out : List ℕ) → i + length words ≤ length out

@@ -4,9 +4,11 @@ ghost use Rattle.port.specs.Packets.{replyIn, chainDuring, chainIn, reje
 ghost use Rattle.port.specs.Promise.{PacketMeets};
 ghost use Rattle.port.specs.Run.{stateOf, ran, allWithin, runVerdict, RunMeets};
 ghost use Rattle.port.specs.RunLaws.{written};
-ghost use Rattle.port.specs.Quiet.{quietly, idle, idled};
+ghost use Rattle.port.specs.Quiet.{leavesBoard, quietly, idled, brief, briefly};
 ghost use Rattle.plan.specs.Plan.{planOf};
 ghost use Prim.Native.Nat.{_≤_};
+ghost use mathlib.Core.Bool.{true, _&&_};
+ghost use lib.Dec.{leb};
 ghost use lib.ListN.{length};
 use board::Board;
 use board::Chain;
@@ -125,6 +127,28 @@ fn settle_quietly(place: Place, plan: Plan) -> Place
     }
 }
 
+// The board is large: a command that leaves it alone does not copy it.
+fn leaves_board(command: Command) -> bool
+    ensures { λ r. ⌜ r ≡ leavesBoard command ⌝ }
+{
+    match command {
+        Command::Unknown => true,
+        Command::Rdreg(_) => true,
+        Command::Wdreg(_) => false,
+        Command::Read(_) => true,
+        Command::Write(_) => true,
+        Command::Dump(_) => true,
+        Command::Fill(_) => true,
+        Command::Go => false,
+        Command::Nop => true,
+        Command::SyncPc => false,
+        Command::Rcreg => true,
+        Command::Wcreg => false,
+        Command::Rdmreg => false,
+        Command::Wdmreg(_) => false,
+    }
+}
+
 fn carry_out(board: Board, place: Place, memory: &mut [u8], plan: Plan) -> Next
     ensures { λ r. ⌜ (r .board ≡ boardBy plan board) × (r .place ≡ placeBy plan board place (now (memory .entry))) × (now (memory .exit) ≡ memoryBy plan place (now (memory .entry))) ⌝ }
 {
@@ -133,6 +157,12 @@ fn carry_out(board: Board, place: Place, memory: &mut [u8], plan: Plan) -> Next
             let access = work::make_access(memory, command, place.pointer, address, value);
             let ending = work::find_ending(command, board, address, access);
             let settled = work::settle(command, place, access, ending);
+            if leaves_board(command) {
+                return Next {
+                    board: board,
+                    place: settled,
+                };
+            }
             Next {
                 board: registers::board_after(command, board, address, value),
                 place: settled,
@@ -204,17 +234,26 @@ pub struct Ran {
     pub place: Place,
 }
 
+fn still_within(within: bool, word: u32) -> bool
+    ensures { λ r. ⌜ r ≡ (leb word 0x1FFFF && within) ⌝ }
+{
+    if word <= 0x1FFFF {
+        return within;
+    }
+    false
+}
+
+// To the end in any case: a loop with one way out compiles to steps of several words.
 fn all_within(words: &[u32]) -> bool
     ensures { λ r. ⌜ r ≡ allWithin (now (words .entry)) ⌝ }
 {
+    let mut within = true;
     let mut i = 0;
     while i < words.len() {
-        if 0x1FFFF < words[i] {
-            return false;
-        }
+        within = still_within(within, words[i]);
         i += 1;
     }
-    true
+    within
 }
 
 fn judge_run(board: Board, place: Place, memory: &[u8], words: &[u32], room: usize) -> Verdict
@@ -235,16 +274,21 @@ fn judge_run(board: Board, place: Place, memory: &[u8], words: &[u32], room: usi
     Verdict::Refused(Ground::StateOutOfRange)
 }
 
-// A NOP at rest: one carries the closing reply of each request out.
-fn is_idle(place: Place, word: u32) -> bool
-    ensures { λ r. ⌜ r ≡ idle (place .phase) word ⌝ }
+// A packet that the place alone decides: a NOP at rest, an operand word but the last, and that which brings the low result word.
+fn is_brief(place: Place, word: u32) -> bool
+    ensures { λ r. ⌜ r ≡ brief (place .phase) word ⌝ }
 {
     let phase = place.phase;
     match phase {
         Phase::Rest => word == 0,
-        Phase::Due(_, _, _) => false,
+        Phase::Due(_, left, _) => {
+            if 2 <= left {
+                return word <= 0xFFFF;
+            }
+            false
+        }
         Phase::Waiting(_, _, _, _) => false,
-        Phase::Low(_) => false,
+        Phase::Low(_) => true,
     }
 }
 
@@ -257,6 +301,22 @@ fn stay_idle(place: Place) -> Place
         chain: chain,
         pointer: place.pointer,
         next: 0x0FFFF,
+    }
+}
+
+fn take_briefly(place: Place, word: u32) -> Place
+    requires { ⌜ brief (place .phase) word ≡ true ⌝ }
+    ensures { λ r. ⌜ r ≡ briefly (place .phase) place word ⌝ }
+{
+    let phase = place.phase;
+    match phase {
+        Phase::Rest => stay_idle(place),
+        Phase::Due(command, left, taken) => {
+            let all = plan::take_operand(taken, word as u16);
+            hold(place, Phase::Due(command, left - 1, all))
+        }
+        Phase::Waiting(_, _, _, _) => place,
+        Phase::Low(low) => release(place, low),
     }
 }
 
@@ -277,9 +337,8 @@ fn take_words(
         let word = words[i];
         replies[i] = reply_of(p);
         i += 1;
-        // The board is large, and is left where it is by packets that leave it alone.
-        if is_idle(p, word) {
-            p = stay_idle(p);
+        if is_brief(p, word) {
+            p = take_briefly(p, word);
             continue;
         }
         let plan = plan_at(p, b.status.halted, b.w, word);

@@ -17,15 +17,6 @@ use Rattle.port.specs.Sound.{SoundPlace, SoundMemory}
 use Rattle.port.specs.SoundLaws.{packet-keeps-place, packet-keeps-board, packet-keeps-memory, packet-keeps-w, sound-is-in-range}
 use Rattle.promises.specs.Environment.{BoardOf}
 
--- of two tests that hold
-pub first : (x y : Bool) → (x && y) ≡ true → x ≡ true
-first true y h = refl
-first false y h = h
-
-pub second : (x y : Bool) → (x && y) ≡ true → y ≡ true
-second true y h = h
-second false y h = let z : false ≡ true = h in cc
-
 module _ (w : ℕ) (b : Board) (p : Place) (board : BoardOf w b) (place : SoundPlace w p) where
   here : SoundPlace (b .w) p
   here = subst (λ (n : ℕ). SoundPlace n p) (sym (board .setting)) place

@@ -8,7 +8,7 @@ use Rattle.memory.specs.MemoryLaws.{AllBelow}
 use native.Mathlib.Omega.{arith}
 use borrow.Author.Tests.{ltb-true}
 use Rattle.promises.specs.Machine.{State, standIn}
-use Rattle.promises.specs.FitLaws.{first, second}
+use Rattle.port.specs.Both.{first, second}
 use Rattle.promises.specs.Environment.{Handed, handed}
 use Rattle.promises.specs.History.{Lent, Call, finds}
 use Rattle.promises.specs.History.Call.{packet}

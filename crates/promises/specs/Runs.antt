@@ -19,7 +19,8 @@ use Rattle.promises.specs.Machine.{State, state, standIn}
 use Rattle.promises.specs.Environment.{Handed, handed}
 use Rattle.promises.specs.History.{Lent, Call, taking, after, finds, made}
 use Rattle.promises.specs.History.Call.{packet}
-use Rattle.promises.specs.FitLaws.{first, second, in-range, memory-kept}
+use Rattle.port.specs.Both.{first, second}
+use Rattle.promises.specs.FitLaws.{in-range, memory-kept}
 use Rattle.promises.specs.HistoryLaws.{Sound, fresh-sound, sound-packet, sound-after}
 
 -- calls that leave what a run leaves and hand back its replies

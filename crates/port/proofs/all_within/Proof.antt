@@ -1,31 +1,31 @@
 use Prim.Native.Nat.{_≤_, _-_}
 use lib.ListN.{length, drop}
 use mathlib.Core.Path.{_≡_, refl, sym, _∙_}
+use mathlib.Core.Bool.{_&&_}
 use native.Mathlib.Omega.{arith}
 use borrow.Author.Needs.{needs}
-use borrow.Author.Tests.{lt-leb, le-leb}
 use Rattle.port.specs.Run.{allWithin}
 use Rattle.port.specs.RunLaws.{within-on, within-out}
 use Rattle.port.proofs.all_within.Statement.{statement}
 use Rattle.port.proofs.all_within.Tie as tie
 
 abbrev Inv-loop : tie.InvT-loop
-Inv-loop words i₀ i = (i ≤ length words) × (allWithin (drop i words) ≡ allWithin words)
+Inv-loop words within₀ i₀ within i = (i ≤ length words) × ((within && allWithin (drop i words)) ≡ allWithin words)
 
 abbrev μ-loop : tie.MeasureT-loop
-μ-loop words i₀ i = length words - i
+μ-loop words within₀ i₀ within i = length words - i
 
 loop-holds : tie.Need-loop-holds Inv-loop μ-loop
 loop-holds c = (omega arith, refl)
 
-mul-if1 : tie.Need-mul-if1 Inv-loop μ-loop
-mul-if1 c = search needs
+mul-still-within : tie.Need-mul-still-within Inv-loop μ-loop
+mul-still-within c = search needs
 
-shared-slice-read-if1 : tie.Need-shared-slice-read-if1 Inv-loop μ-loop
-shared-slice-read-if1 c = search needs
+shared-slice-read-still-within : tie.Need-shared-slice-read-still-within Inv-loop μ-loop
+shared-slice-read-still-within c = search needs
 
-returns : tie.Need-returns Inv-loop μ-loop
-returns c = sym (sym (c .before .before .before .loop .inv .1) ∙ within-on _ _ (c .before .before .loop-test .taken) ∙ rw (lt-leb _ _ (c .if1 .taken)))
+still-within-requires : tie.Need-still-within-requires Inv-loop μ-loop
+still-within-requires c κs = search needs
 
 add-i : tie.Need-add-i Inv-loop μ-loop
 add-i c = omega arith
@@ -34,10 +34,10 @@ loop-less : tie.Need-loop-less Inv-loop μ-loop
 loop-less c = omega arith
 
 loop-again : tie.Need-loop-again Inv-loop μ-loop
-loop-again c = (omega arith, sym (within-on _ _ (c .before .before .loop-test .taken) ∙ rw (le-leb _ _ (c .if1 .left))) ∙ c .before .before .before .loop .inv .1)
+loop-again c = (omega arith, rw (c .still-within .ensures) (within-on (c .before .before .before .before .before .args .words .now) _ (c .before .before .before .loop .within) (c .before .before .loop-test .taken)) ∙ c .before .before .before .loop .inv .1)
 
-returns-2 : tie.Need-returns-2 Inv-loop μ-loop
-returns-2 c = sym (sym (c .before .loop .inv .1) ∙ within-out _ _ (c .loop-test .left))
+returns : tie.Need-returns Inv-loop μ-loop
+returns c = sym (within-out _ _ _ (c .loop-test .left)) ∙ c .before .loop .inv .1
 
 pub all-within-spec : {M : Type 1} → statement M
 all-within-spec =
@@ -46,10 +46,10 @@ all-within-spec =
     Inv-loop
     μ-loop
     loop-holds
-    mul-if1
-    shared-slice-read-if1
-    returns
+    mul-still-within
+    shared-slice-read-still-within
+    still-within-requires
     add-i
     loop-less
     loop-again
-    returns-2)
+    returns)

@@ -5,7 +5,7 @@ use native.Mathlib.Omega.{arith}
 use borrow.Author.Needs.{needs}
 use Rattle.port.specs.Run.{stateOf, ran}
 use Rattle.port.specs.RunLaws.{written, stepped-by, stepped-as, goes-on, ran-out, written-out}
-use Rattle.port.specs.Quiet.{idle-step}
+use Rattle.port.specs.QuietLaws.{brief-step}
 use Rattle.port.proofs.Quiet.{quiet}
 use Rattle.port.proofs.take_words.Statement.{statement}
 use Rattle.port.proofs.take_words.Tie as tie
@@ -42,17 +42,17 @@ slice-write-replies c = omega arith
 add-i : tie.Need-add-i Inv-loop μ-loop
 add-i c = omega arith
 
-is-idle-requires : tie.Need-is-idle-requires Inv-loop μ-loop
-is-idle-requires c κs = search needs
+is-brief-requires : tie.Need-is-brief-requires Inv-loop μ-loop
+is-brief-requires c κs = search needs
 
-stay-idle-requires : tie.Need-stay-idle-requires Inv-loop μ-loop
-stay-idle-requires c κs = search needs
+take-briefly-requires : tie.Need-take-briefly-requires Inv-loop μ-loop
+take-briefly-requires c κs = sym (c .before .is-brief .ensures) ∙ c .if1 .taken
 
 loop-less : tie.Need-loop-less Inv-loop μ-loop
 loop-less c = omega arith
 
 loop-again : tie.Need-loop-again Inv-loop μ-loop
-loop-again c = let at = c .before .before .before .before .before .before .loop in let words = c .before .before .before .before .before .before .before .before .before .before .args .words .now in let word = getD words (at .i) 0 in let step = (let stays = idle-step (at .b) (at .p) (at .memory) word (sym (c .before .before .is-idle .ensures) ∙ c .before .if1 .taken) in stepped-by (at .b) (at .p) (at .memory) word (stays .0) (c .stay-idle .ensures ∙ stays .1) (stays .2)) in let on = goes-on words (at .i) (stateOf (at .b) (at .p) (at .memory)) (at .replies) (c .before .before .before .before .before .loop-test .taken) step in (omega arith, at .inv .1, simp length-set (at .inv .2), on .0 ∙ at .inv .3, rw (c .before .before .before .reply-of .ensures) (on .1 ∙ at .inv .4))
+loop-again c = let at = c .before .before .before .before .before .before .loop in let words = c .before .before .before .before .before .before .before .before .before .before .args .words .now in let word = getD words (at .i) 0 in let step = (let stays = brief-step (at .p .phase) (at .b) (at .p) (at .memory) word refl (sym (c .before .before .is-brief .ensures) ∙ c .before .if1 .taken) in stepped-by (at .b) (at .p) (at .memory) word (stays .0) (c .take-briefly .ensures ∙ stays .1) (stays .2)) in let on = goes-on words (at .i) (stateOf (at .b) (at .p) (at .memory)) (at .replies) (c .before .before .before .before .before .loop-test .taken) step in (omega arith, at .inv .1, simp length-set (at .inv .2), on .0 ∙ at .inv .3, rw (c .before .before .before .reply-of .ensures) (on .1 ∙ at .inv .4))
 
 plan-at-requires : tie.Need-plan-at-requires Inv-loop μ-loop
 plan-at-requires c κs = search needs
@@ -100,8 +100,8 @@ take-words-spec =
     mul-replies
     slice-write-replies
     add-i
-    is-idle-requires
-    stay-idle-requires
+    is-brief-requires
+    take-briefly-requires
     loop-less
     loop-again
     plan-at-requires
