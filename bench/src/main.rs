@@ -1,5 +1,5 @@
-//! `bench`: the proved run of packets and listing against the second program's, interleaved, in rounds. `bench count WHAT WHOSE TIMES`
-//! does one of them so many times and nothing else, so that its instructions can be counted.
+//! `bench`: the proved run of packets and listing against the second program's, interleaved, in rounds. `bench agree` only shows that the
+//! two agree. `bench count WHAT WHOSE TIMES` does one of them so many times and nothing else, so that its instructions can be counted.
 
 mod inputs;
 mod ours;
@@ -10,13 +10,25 @@ use rounds::Contest;
 use std::process::ExitCode;
 use work::Work;
 
-const USAGE: &str = "usage: bench | bench count packets|trace ours|second TIMES";
+const USAGE: &str = "usage: bench | bench agree | bench count WHAT ours|second TIMES";
 
-fn contests() -> [Contest; 2] {
+fn contests() -> [Contest; 6] {
     [
-        Contest { what: "packets", size: inputs::PACKETS, ours: Work::run_ours, second: Work::run_second },
-        Contest { what: "trace", size: inputs::CYCLES, ours: Work::list_ours, second: Work::list_second },
+        packets("packets, slot table", || Work::on_packets(inputs::table())),
+        packets("packets, registers", || Work::on_packets(inputs::registers())),
+        packets("packets, noise", || Work::on_packets(inputs::noise())),
+        trace("trace, transfers", || Work::on_trace(inputs::transfers())),
+        trace("trace, stops", || Work::on_trace(inputs::stops())),
+        trace("trace, jumble", || Work::on_trace(inputs::jumble())),
     ]
+}
+
+fn packets(what: &'static str, input: fn() -> Work) -> Contest {
+    Contest { what, input, ours: Work::run_ours, second: Work::run_second }
+}
+
+fn trace(what: &'static str, input: fn() -> Work) -> Contest {
+    Contest { what, input, ours: Work::list_ours, second: Work::list_second }
 }
 
 fn main() -> ExitCode {
@@ -24,6 +36,7 @@ fn main() -> ExitCode {
     let arguments: Vec<&str> = arguments.iter().map(String::as_str).collect();
     let done = match arguments[..] {
         [] => contests().iter().try_for_each(Contest::hold),
+        ["agree"] => contests().iter().try_for_each(Contest::agree),
         ["count", what, whose, times] => count(what, whose, times),
         _ => Err(USAGE.to_string()),
     };
@@ -44,7 +57,7 @@ fn count(what: &str, whose: &str, times: &str) -> Result<(), String> {
         _ => return Err(USAGE.to_string()),
     };
     let times: u32 = times.parse().map_err(|_| USAGE)?;
-    let mut work = Work::new();
+    let mut work = (contest.input)();
     for _ in 0..times {
         std::hint::black_box(side(std::hint::black_box(&mut work)));
     }

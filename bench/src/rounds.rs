@@ -1,5 +1,6 @@
 //! Rounds of one side after the other, and what they came to.
 
+use crate::inputs;
 use crate::work::Work;
 use std::hint::black_box;
 use std::time::{Duration, Instant};
@@ -11,19 +12,23 @@ const LEAST: Duration = Duration::from_millis(100);
 /// One thing that both can do.
 pub struct Contest {
     pub what: &'static str,
-    /// Packets or cycles in one go.
-    pub size: usize,
+    pub input: fn() -> Work,
     pub ours: fn(&mut Work) -> u64,
     pub second: fn(&mut Work) -> u64,
 }
 
 impl Contest {
+    pub fn agree(&self) -> Result<(), String> {
+        if Work::agrees(self.input, self.ours, self.second) {
+            return Ok(());
+        }
+        Err(format!("{}: the two do not agree, so there is nothing to measure", self.what))
+    }
+
     /// Prints packets or cycles a second for each side, and the ratio with its spread.
     pub fn hold(&self) -> Result<(), String> {
-        if !Work::agrees(self.ours, self.second) {
-            return Err(format!("{}: the two do not agree, so there is nothing to time", self.what));
-        }
-        let mut work = Work::new();
+        self.agree()?;
+        let mut work = (self.input)();
         let goes = goes_in(self.second, &mut work);
         let mut ours = Vec::new();
         let mut second = Vec::new();
@@ -52,7 +57,7 @@ impl Contest {
 
     /// Packets or cycles a second.
     fn rate(&self, side: fn(&mut Work) -> u64, goes: u32, work: &mut Work) -> f64 {
-        (f64::from(goes) * self.size as f64) / timed(side, goes, work).as_secs_f64()
+        (f64::from(goes) * inputs::SIZE as f64) / timed(side, goes, work).as_secs_f64()
     }
 }
 

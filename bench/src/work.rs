@@ -1,12 +1,15 @@
-//! The four things that are timed, each over the whole input once.
+//! The four things that are timed, each over a whole input once.
 
-use crate::{inputs, ours};
+use crate::inputs::{self, Packets};
+use crate::ours;
 use second::board::Board;
 use second::refusal::Refusal;
 use second::trace::list_trace;
 
 /// An input, and the buffers that a run of it writes.
+#[derive(Default)]
 pub struct Work {
+    wait: u32,
     packets: Vec<u32>,
     memory: Vec<u8>,
     replies: Vec<u32>,
@@ -15,24 +18,24 @@ pub struct Work {
 }
 
 impl Work {
-    pub fn new() -> Work {
-        Work {
-            packets: inputs::packets(),
-            memory: vec![0; inputs::MEMORY],
-            replies: vec![0; inputs::PACKETS],
-            trace: inputs::trace(),
-            words: vec![0; 4 * inputs::CYCLES],
-        }
+    pub fn on_packets(input: Packets) -> Work {
+        let replies = vec![0; input.words.len()];
+        Work { wait: input.wait, packets: input.words, memory: vec![0; inputs::MEMORY], replies, ..Work::default() }
+    }
+
+    pub fn on_trace(trace: Vec<u8>) -> Work {
+        let words = vec![0; 4 * trace.len()];
+        Work { trace, words, ..Work::default() }
     }
 
     /// 0, or the number of the refusal.
     pub fn run_ours(&mut self) -> u64 {
-        u64::from(ours::run(inputs::WAIT, &mut self.memory, &self.packets, &mut self.replies))
+        u64::from(ours::run(self.wait, &mut self.memory, &self.packets, &mut self.replies))
     }
 
     pub fn run_second(&mut self) -> u64 {
-        let ran = Board::make(inputs::WAIT)
-            .and_then(|mut board| board.run(&mut self.memory, &self.packets, &mut self.replies));
+        let ran =
+            Board::make(self.wait).and_then(|mut board| board.run(&mut self.memory, &self.packets, &mut self.replies));
         ran.map_or_else(|refusal| u64::from(refusal.number()), |()| 0)
     }
 
@@ -47,8 +50,8 @@ impl Work {
     }
 
     /// Both give the same answer, and leave the same in every buffer. What is said of a work that is not the same is not worth timing.
-    pub fn agrees(ours: fn(&mut Work) -> u64, second: fn(&mut Work) -> u64) -> bool {
-        let (mut left, mut right) = (Work::new(), Work::new());
+    pub fn agrees(input: fn() -> Work, ours: fn(&mut Work) -> u64, second: fn(&mut Work) -> u64) -> bool {
+        let (mut left, mut right) = (input(), input());
         ours(&mut left) == second(&mut right)
             && left.memory == right.memory
             && left.replies == right.replies

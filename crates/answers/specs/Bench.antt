@@ -1,8 +1,11 @@
 -- What a line leaves of the bench (the desk's language, `stand_in`): the board, the place, how many bytes are lent, and memory.
-use Prim.Native.Nat.{ℕ, _%_}
-use mathlib.Core.Bool.{Bool, true, false}
-use mathlib.Core.List.{List, _++_}
+use Prim.Native.Nat.{ℕ, zero, suc, _+_, _*_, _%_}
+use mathlib.Core.Bool.{Bool, cond}
+use mathlib.Core.List.{List, [], _∷_, _++_}
+use lib.Dec.{leb}
 use lib.ListN.{take, drop}
+use lib.Seq.{sets}
+use Rattle.words.specs.Numbers.{byteAt}
 use Rattle.board.specs.declared.Board.{Board}
 use Rattle.board.specs.declared.Place.{Place}
 use Rattle.board.specs.Board.{freshBoard, freshPlace, makingVerdict}
@@ -73,34 +76,40 @@ benchLeft asked bench memory =
     (placeLeft asked (bench .board) (bench .place) (take (bench .lent) memory))
     (lentLeft asked (bench .lent))
 
--- "put at A by the bench itself, not through the port": the lines by which the bench itself writes memory
-abbrev pub isOwn : BoardLine → Bool
-isOwn Nothing = false
-isOwn (Make w) = false
-isOwn (Memory n) = true
-isOwn (Bytes address from count) = true
-isOwn (Packet word) = false
-isOwn (EventLine pc) = false
-isOwn (EventWithAccess pc address attribute lanes) = false
-isOwn Breakpoint = false
-isOwn (Peek address count) = false
-isOwn State = false
-isOwn Unclear = false
+-- so many numbers, by their places
+abbrev pub listed : (ℕ → ℕ) → ℕ → List ℕ
+listed f zero = []
+listed f (suc n) = f 0 ∷ listed (λ k. f (suc k)) n
+
+-- "N zero bytes"
+abbrev pub zeros : ℕ → List ℕ
+zeros n = listed (λ k. 0) n
+
+-- "the N bytes HEX (two digits each)"
+abbrev pub bytesFrom : List ℕ → ℕ → ℕ → List ℕ
+bytesFrom line start n = listed (λ k. byteAt line (start + 2 * k)) n
+
+-- "`unclear` where they don't fit"
+abbrev pub fits : ℕ → ℕ → ℕ → Bool
+fits address count lent = leb (address + count) lent
 
 -- the memory that a packet leaves, of what it was lent
 abbrev pub writtenBy : ℕ → Board → Place → List ℕ → List ℕ
 writtenBy word b p m = unless (packetVerdict b p m word) (memoryNext b p m word) m
 
--- else memory stays
-abbrev pub memoryLeft : BoardLine → Bench → List ℕ → List ℕ
-memoryLeft Nothing bench m = m
-memoryLeft (Make w) bench m = m
-memoryLeft (Memory n) bench m = m
-memoryLeft (Bytes address from count) bench m = m
-memoryLeft (Packet word) bench m = writtenBy word (bench .board) (bench .place) (take (bench .lent) m) ++ drop (bench .lent) m
-memoryLeft (EventLine pc) bench m = m
-memoryLeft (EventWithAccess pc address attribute lanes) bench m = m
-memoryLeft Breakpoint bench m = m
-memoryLeft (Peek address count) bench m = m
-memoryLeft State bench m = m
-memoryLeft Unclear bench m = m
+abbrev pub lentWritten : ℕ → Bench → List ℕ → List ℕ
+lentWritten word bench m = writtenBy word (bench .board) (bench .place) (take (bench .lent) m) ++ drop (bench .lent) m
+
+-- "N zero bytes are lent from now on"; "put at A by the bench itself, not through the port"; what a packet leaves; else memory stays
+abbrev pub memoryLeft : List ℕ → BoardLine → Bench → List ℕ → List ℕ
+memoryLeft line Nothing bench m = m
+memoryLeft line (Make w) bench m = m
+memoryLeft line (Memory n) bench m = sets m 0 (zeros n)
+memoryLeft line (Bytes address from count) bench m = cond (fits address count (bench .lent)) (sets m address (bytesFrom line from count)) m
+memoryLeft line (Packet word) bench m = lentWritten word bench m
+memoryLeft line (EventLine pc) bench m = m
+memoryLeft line (EventWithAccess pc address attribute lanes) bench m = m
+memoryLeft line Breakpoint bench m = m
+memoryLeft line (Peek address count) bench m = m
+memoryLeft line State bench m = m
+memoryLeft line Unclear bench m = m

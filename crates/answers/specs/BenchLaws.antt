@@ -1,13 +1,16 @@
 -- Laws of the bench: what making leaves is what the line says, and the bytes lent are those that there are.
-use Prim.Native.Nat.{ℕ, _≤_, min}
+use Prim.Native.Nat.{ℕ, zero, suc, _+_, _-_, _≤_, _<_, min}
 use mathlib.Core.Path.{_≡_, refl, sym, _∙_}
 use mathlib.Core.Bool.{Bool, true, false, cond}
 use mathlib.Core.List.{List}
+use native.Mathlib.Numerals.{add-one}
 use native.Mathlib.Omega.{arith}
-use borrow.Author.Tests.{leb-true, leb-false}
+use borrow.Author.Tests.{leb-true, leb-false, le-leb, lt-leb}
 use lib.Dec.{leb}
-use lib.ListN.{length, take, drop, drop-of-length-le}
-use lib.Seq.{take-all}
+use lib.ListN.{length, set, take, drop, drop-of-length-le}
+use lib.Seq.{take-all, sets}
+use Rattle.words.specs.Numbers.{byteAt}
+use Rattle.answers.specs.Bench.{listed, fits}
 use Rattle.grounds.specs.declared.Ground.{Ground}
 use Rattle.grounds.specs.declared.Ground.the-variants.{WaitTooLarge}
 use Rattle.grounds.specs.declared.Verdict.{Verdict}
@@ -49,3 +52,22 @@ lent-part lent n m e = split (leb lent (length m)) refl
         let end : length m ≤ n = omega (arith, e, beyond) in
         let past : length m ≤ lent = omega (arith, beyond) in
         (take-all n m end ∙ sym (take-all lent m past), drop-of-length-le m end ∙ sym (drop-of-length-le m past))
+
+-- one more of them is put
+pub put-next : (f : ℕ → ℕ) (i : ℕ) (m : List ℕ) (to : ℕ) → set (sets m to (listed f i)) (to + i) (f i) ≡ sets m to (listed f (i + 1))
+put-next f i m to = rw (add-one i) (put-suc f i m to)
+  where
+    put-suc : (f : ℕ → ℕ) (i : ℕ) (m : List ℕ) (to : ℕ) → set (sets m to (listed f i)) (to + i) (f i) ≡ sets m to (listed f (suc i))
+    put-suc f zero m to = let here : to + 0 ≡ to = omega arith in rw here
+    put-suc f (suc i) m to = let on : to + suc i ≡ suc to + i = omega arith in rw on (put-suc (λ k. f (suc k)) i (set m to (f 0)) (suc to))
+
+pub byte-small : (line : List ℕ) (at : ℕ) → byteAt line at < 256
+byte-small line at = omega arith
+
+-- so many bytes from an address on are lent where the rest has room
+pub fits-by : (address count lent : ℕ) → address ≤ lent → leb count (lent - address) ≡ fits address count lent
+fits-by address count lent h = split (leb count (lent - address)) refl
+  where
+    split : (t : Bool) → leb count (lent - address) ≡ t → t ≡ fits address count lent
+    split true e = sym (le-leb (address + count) lent (omega (arith, h, leb-true count (lent - address) e)))
+    split false e = sym (lt-leb (address + count) lent (omega (arith, h, leb-false count (lent - address) e)))

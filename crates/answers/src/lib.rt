@@ -12,14 +12,16 @@ use port::Outcome;
 use trigger::Access;
 use trigger::Bus;
 use trigger::Event;
-ghost use Prim.Native.Nat.{min};
+ghost use Prim.Native.Nat.{_+_, _*_, min};
 ghost use mathlib.Core.Path.{_≡_};
-ghost use mathlib.Core.Bool.{false};
+ghost use lib.ListN.{set};
+ghost use lib.Seq.{sets};
+ghost use Rattle.words.specs.Numbers.{byteAt};
 ghost use Rattle.board.specs.Board.{freshBoard, freshPlace, makingVerdict};
 ghost use Rattle.port.specs.Packets.{packetVerdict, boardNext, placeNext, unless};
 ghost use Rattle.bus.specs.Events.{boardAfterEvent, boardAfterBreakpoint};
-ghost use Rattle.answers.specs.Bench.{access, benchOf, benchLeft, isOwn, writtenBy, memoryLeft};
-ghost use Rattle.lines.specs.declared.BoardLine.the-variants.{Packet};
+ghost use Rattle.answers.specs.Bench.{access, benchOf, benchLeft, zeros, bytesFrom, fits, writtenBy, lentWritten, memoryLeft};
+ghost use Rattle.lines.specs.declared.BoardLine.the-variants.{Packet, Bytes};
 
 mod state;
 
@@ -90,13 +92,17 @@ fn make(w: u32, bench: Bench, text: &mut [u8]) -> Answered
     }
 }
 
-fn clear_at(memory: &mut [u8], i: usize) {
+fn clear_at(memory: &mut [u8], i: usize)
+    ensures { λ _. ⌜ now (memory .exit) ≡ set (now (memory .entry)) i 0 ⌝ }
+{
     if i < memory.len() {
         memory[i] = 0;
     }
 }
 
-fn clear(memory: &mut [u8], count: usize) {
+fn clear(memory: &mut [u8], count: usize)
+    ensures { λ _. ⌜ now (memory .exit) ≡ sets (now (memory .entry)) 0 (zeros count) ⌝ }
+{
     let mut i: usize = 0;
     while i < count {
         clear_at(memory, i);
@@ -105,7 +111,7 @@ fn clear(memory: &mut [u8], count: usize) {
 }
 
 fn lend(n: u32, bench: Bench, memory: &mut [u8], text: &mut [u8]) -> Answered
-    ensures { λ r. ⌜ r .bench ≡ benchOf (bench .board) (bench .place) n ⌝ }
+    ensures { λ r. ⌜ (r .bench ≡ benchOf (bench .board) (bench .place) n) × (now (memory .exit) ≡ sets (now (memory .entry)) 0 (zeros n)) ⌝ }
 {
     let count = n as usize;
     clear(memory, count);
@@ -116,7 +122,9 @@ fn lend(n: u32, bench: Bench, memory: &mut [u8], text: &mut [u8]) -> Answered
     bench_after(board, place, count, end)
 }
 
-fn copy_bytes(line: &[u8], start: usize, count: usize, memory: &mut [u8], to: usize) {
+fn copy_bytes(line: &[u8], start: usize, count: usize, memory: &mut [u8], to: usize)
+    ensures { λ _. ⌜ now (memory .exit) ≡ sets (now (memory .entry)) to (bytesFrom (now (line .entry)) start count) ⌝ }
+{
     let mut i: usize = 0;
     while i < count {
         put_one(line, start, memory, to, i);
@@ -124,22 +132,33 @@ fn copy_bytes(line: &[u8], start: usize, count: usize, memory: &mut [u8], to: us
     }
 }
 
-// The byte of the digits at a place of a line, which has 4,096 bytes at most.
-fn put_one(line: &[u8], start: usize, memory: &mut [u8], to: usize, i: usize) {
-    if i <= 4096 {
-        if start <= 4096 {
-            let byte = words::number::byte_at(line, start + 2 * i);
-            if to <= memory.len() {
-                if i < memory.len() - to {
-                    memory[to + i] = (byte % 256) as u8;
-                }
-            }
+// The byte of a line's digits, so many bytes after a place; 0 beyond the line.
+fn byte_after(line: &[u8], start: usize, i: usize) -> u32
+    ensures { λ r. ⌜ r ≡ byteAt (now (line .entry)) (start + 2 * i) ⌝ }
+{
+    if line.len() <= start {
+        return 0;
+    }
+    if (line.len() - start) / 2 < i {
+        return 0;
+    }
+    words::number::byte_at(line, start + 2 * i)
+}
+
+fn put_one(line: &[u8], start: usize, memory: &mut [u8], to: usize, i: usize)
+    ensures { λ _. ⌜ now (memory .exit) ≡ set (now (memory .entry)) (to + i) (byteAt (now (line .entry)) (start + 2 * i)) ⌝ }
+{
+    if to <= memory.len() {
+        if i < memory.len() - to {
+            memory[to + i] = (byte_after(line, start, i) % 256) as u8;
         }
     }
 }
 
 // Whether so many bytes from an address on are lent.
-fn is_lent(address: u32, count: usize, lent: usize) -> bool {
+fn is_lent(address: u32, count: usize, lent: usize) -> bool
+    ensures { λ r. ⌜ r ≡ fits address count lent ⌝ }
+{
     let from = address as usize;
     if from <= lent {
         return count <= lent - from;
@@ -156,7 +175,7 @@ fn put_bytes(
     memory: &mut [u8],
     text: &mut [u8],
 ) -> Answered
-    ensures { λ r. ⌜ r .bench ≡ bench ⌝ }
+    ensures { λ r. ⌜ (r .bench ≡ bench) × (now (memory .exit) ≡ memoryLeft (now (line .entry)) (Bytes address start count) bench (now (memory .entry))) ⌝ }
 {
     if is_lent(address, count, bench.lent) {
         copy_bytes(line, start, count, memory, address as usize);
@@ -215,7 +234,7 @@ fn put_memory(memory: &[u8], from: usize, count: u32, text: &mut [u8], at: usize
 }
 
 // The bytes lent, of those that there are.
-fn lent_of(lent: usize, most: usize) -> usize
+pub fn lent_of(lent: usize, most: usize) -> usize
     ensures { λ r. ⌜ r ≡ min lent most ⌝ }
 {
     if lent <= most {
@@ -340,7 +359,7 @@ fn carrying(pc: u32, address: u32, attribute: u32, lanes: u32) -> Event
 }
 
 fn packet_line(word: u32, bench: Bench, memory: &mut [u8], text: &mut [u8]) -> Answered
-    ensures { λ r. ⌜ (r .bench ≡ benchLeft (Packet word) bench (now (memory .entry))) × (now (memory .exit) ≡ memoryLeft (Packet word) bench (now (memory .entry))) ⌝ }
+    ensures { λ r. ⌜ (r .bench ≡ benchLeft (Packet word) bench (now (memory .entry))) × (now (memory .exit) ≡ lentWritten word bench (now (memory .entry))) ⌝ }
 {
     let n = lent_of(bench.lent, memory.len());
     take_word(word, bench, &mut memory[..n], text)
@@ -354,7 +373,7 @@ pub fn answer_line(
     memory: &mut [u8],
     text: &mut [u8],
 ) -> Answered
-    ensures { λ r. ⌜ (r .bench ≡ benchLeft asked bench (now (memory .entry))) × (isOwn asked ≡ false → now (memory .exit) ≡ memoryLeft asked bench (now (memory .entry))) ⌝ }
+    ensures { λ r. ⌜ (r .bench ≡ benchLeft asked bench (now (memory .entry))) × (now (memory .exit) ≡ memoryLeft (now (line .entry)) asked bench (now (memory .entry))) ⌝ }
 {
     match asked {
         BoardLine::Nothing => Answered {

@@ -1,12 +1,11 @@
 -- The board and its parts (01): making a board.
 use Prim.Native.Nat.{ℕ}
-use mathlib.Core.Bool.{Bool, true, false, cond}
+use mathlib.Core.Bool.{true, false, cond}
 use mathlib.Core.List.{[], _∷_}
 use lib.Dec.{leb}
 use lib.ListN.{replicate}
 use Rattle.grounds.specs.declared.Ground.the-variants.{WaitTooLarge}
 use Rattle.grounds.specs.declared.Verdict.{Verdict}
-use Rattle.grounds.specs.declared.Verdict.the-variants.{Accepted, Refused}
 use mathlib.Core.Path.{_≡_, ap, sym, _∙_}
 use Rattle.grounds.specs.Grounds.{check, judge, told}
 use Rattle.grounds.specs.GroundLaws.{told-once}

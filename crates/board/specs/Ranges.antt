@@ -1,6 +1,6 @@
 -- Refusal numbers (01): the ranges for ground 12.
 use Prim.Native.Nat.{ℕ}
-use mathlib.Core.Bool.{Bool, true, false, _&&_, _||_}
+use mathlib.Core.Bool.{Bool, true, _&&_, _||_}
 use lib.Dec.{eqb, leb}
 use Rattle.command.specs.Command.{operandWords, waits}
 use Rattle.board.specs.declared.Board.{Board}

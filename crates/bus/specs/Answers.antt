@@ -1,6 +1,6 @@
 -- Events and firing (01): the answers on paper, each with its refusal number.
 use Prim.Native.Nat.{ℕ}
-use mathlib.Core.Bool.{Bool, true, false}
+use mathlib.Core.Bool.{Bool, false}
 use mathlib.Core.List.{List, [], _∷_}
 use Rattle.grounds.specs.Grounds.{Refusal, refusalOf, noRefusal}
 use Rattle.bus.specs.declared.Captured.{Captured}

@@ -1,6 +1,6 @@
 -- Laws of the event and the breakpoint input: what they leave alone, and that the ranges of ground 12 stay kept.
 use Prim.Native.Nat.{ℕ}
-use mathlib.Core.Path.{_≡_, refl, sym, ap, _∙_}
+use mathlib.Core.Path.{_≡_, refl, sym}
 use mathlib.Core.Bool.{Bool, true, false, cond, _&&_, true≢false}
 use lib.Dec.{eqb, leb}
 use Rattle.grounds.specs.declared.Ground.{Ground}

@@ -1,7 +1,7 @@
 -- Events and firing (01): the promises of the event and of the breakpoint input, refusals in their order.
-use Prim.Native.Nat.{ℕ, _/_, _%_}
+use Prim.Native.Nat.{_%_}
 use mathlib.Core.Path.{_≡_}
-use mathlib.Core.Bool.{Bool, true, false, not}
+use mathlib.Core.Bool.{Bool, false, not}
 use mathlib.Core.List.{[], _∷_}
 use lib.Dec.{eqb}
 use Rattle.grounds.specs.declared.Ground.the-variants.{EventWhileHalted, OddPc, ReservedSize, StateOutOfRange}

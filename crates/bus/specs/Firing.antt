@@ -1,6 +1,6 @@
 -- Events and firing (01): what a firing gives, SSM, and a pending SYNC_PC.
 use Prim.Native.Nat.{ℕ, _/_, _%_, _^_}
-use mathlib.Core.Bool.{Bool, true, false, cond, not, _&&_, _||_}
+use mathlib.Core.Bool.{Bool, false, cond, not, _&&_, _||_}
 use lib.Dec.{eqb}
 use Rattle.board.specs.declared.Status.{Status}
 use Rattle.board.specs.declared.Debug.{Debug}

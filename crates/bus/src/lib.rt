@@ -1,5 +1,4 @@
 // The board watches the bus: the event and the breakpoint input (01, "Events and firing").
-ghost use mathlib.Core.Path.{_≡_};
 ghost use Rattle.bus.specs.Events.{EventMeets, BreakpointMeets};
 use board::Board;
 use board::Place;

@@ -1,4 +1,9 @@
 // A conversation with the bench: a line answered in one of the desk's languages, and line after line to the end of the input.
+ghost use mathlib.Core.Path.{_≡_};
+ghost use Rattle.answers.specs.Bench.{benchOf};
+ghost use Rattle.lines.specs.declared.TalkLine.the-variants.{Ask};
+ghost use Rattle.conversation.specs.declared.Language.the-variants.{Both};
+ghost use Rattle.conversation.specs.Heard.{boardAsked, placeAsked, memoryAsked, lentAsked, benchTold, memoryTold, heard};
 use answers::Answered;
 use answers::Bench;
 use console::Feed;
@@ -28,7 +33,9 @@ fn put_exchanged(text: &mut [u8], answer: Exchanged) -> usize {
     }
 }
 
-fn converse(request: Request, bench: Bench, memory: &mut [u8], text: &mut [u8]) -> Answered {
+fn converse(request: Request, bench: Bench, memory: &mut [u8], text: &mut [u8]) -> Answered
+    ensures { λ r. ⌜ (r .bench ≡ benchOf (boardAsked request (bench .board) (bench .place) (now (memory .entry))) (placeAsked request (bench .board) (bench .place) (now (memory .entry))) (bench .lent)) × (now (memory .exit) ≡ memoryAsked request (bench .board) (bench .place) (now (memory .entry))) ⌝ }
+{
     let board = bench.board;
     let place = bench.place;
     let returned = exchange::exchange(request, board, place, memory);
@@ -40,29 +47,31 @@ fn converse(request: Request, bench: Bench, memory: &mut [u8], text: &mut [u8]) 
 }
 
 // The exchange over the bytes lent, of those that there are.
-fn ask(request: Request, bench: Bench, memory: &mut [u8], text: &mut [u8]) -> Answered {
-    let lent = bench.lent;
-    if lent <= memory.len() {
-        return converse(request, bench, &mut memory[..lent], text);
-    }
-    converse(request, bench, memory, text)
+fn ask(request: Request, bench: Bench, memory: &mut [u8], text: &mut [u8]) -> Answered
+    ensures { λ r. ⌜ (r .bench ≡ benchTold (Ask request) bench (now (memory .entry))) × (now (memory .exit) ≡ lentAsked request bench (now (memory .entry))) ⌝ }
+{
+    let n = answers::lent_of(bench.lent, memory.len());
+    converse(request, bench, &mut memory[..n], text)
 }
 
-fn answer_stand_in(line: &[u8], bench: Bench, memory: &mut [u8], text: &mut [u8]) -> Answered {
-    answers::answer_line(line, lines::read_stand_in_line(line), bench, memory, text)
-}
-
-fn answer_talk(line: &[u8], bench: Bench, memory: &mut [u8], text: &mut [u8]) -> Answered {
-    match lines::read_talk_line(line) {
-        TalkLine::Board(asked) => answers::answer_line(line, asked, bench, memory, text),
-        TalkLine::Ask(request) => ask(request, bench, memory, text),
+fn hear_both(line: &[u8]) -> TalkLine
+    ensures { λ r. ⌜ r ≡ heard Both (now (line .entry)) ⌝ }
+{
+    let told = lines::read_talk_line(line);
+    match told {
+        TalkLine::Board(_) => TalkLine::Board(lines::read_stand_in_line(line)),
+        TalkLine::Ask(request) => TalkLine::Ask(request),
     }
 }
 
-fn answer_both(line: &[u8], bench: Bench, memory: &mut [u8], text: &mut [u8]) -> Answered {
-    match lines::read_talk_line(line) {
-        TalkLine::Board(_) => answer_stand_in(line, bench, memory, text),
-        TalkLine::Ask(request) => ask(request, bench, memory, text),
+// What a line is taken for.
+fn hear(language: Language, line: &[u8]) -> TalkLine
+    ensures { λ r. ⌜ r ≡ heard language (now (line .entry)) ⌝ }
+{
+    match language {
+        Language::StandIn => TalkLine::Board(lines::read_stand_in_line(line)),
+        Language::Talk => lines::read_talk_line(line),
+        Language::Both => hear_both(line),
     }
 }
 
@@ -73,11 +82,13 @@ pub fn answer(
     bench: Bench,
     memory: &mut [u8],
     text: &mut [u8],
-) -> Answered {
-    match language {
-        Language::StandIn => answer_stand_in(line, bench, memory, text),
-        Language::Talk => answer_talk(line, bench, memory, text),
-        Language::Both => answer_both(line, bench, memory, text),
+) -> Answered
+    ensures { λ r. ⌜ (r .bench ≡ benchTold (heard language (now (line .entry))) bench (now (memory .entry))) × (now (memory .exit) ≡ memoryTold (now (line .entry)) (heard language (now (line .entry))) bench (now (memory .entry))) ⌝ }
+{
+    let told = hear(language, line);
+    match told {
+        TalkLine::Board(asked) => answers::answer_line(line, asked, bench, memory, text),
+        TalkLine::Ask(request) => ask(request, bench, memory, text),
     }
 }
 

@@ -1,6 +1,6 @@
 -- Computed examples of the desk's language, each line above its bytes.
 use mathlib.Core.Path.{_≡_, refl}
-use mathlib.Core.List.{List, [], _∷_}
+use mathlib.Core.List.{[], _∷_}
 use Rattle.memory.specs.declared.Size.the-variants.{Word}
 use Rattle.requests.specs.declared.Request.the-variants.{Rdreg, Write, Go, SyncPc}
 use Rattle.words.specs.Words.{kindOf}

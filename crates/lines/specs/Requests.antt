@@ -2,7 +2,6 @@
 use Prim.Native.Nat.{ℕ}
 use mathlib.Core.List.{List, [], _∷_}
 use Rattle.memory.specs.declared.Size.the-variants.{Byte, Word, Long}
-use Rattle.requests.specs.declared.Request.{Request}
 use Rattle.requests.specs.declared.Request.the-variants.{Rdreg, Wdreg, Read, Write, Dump, Fill, Go, Nop, SyncPc, Rcreg, Wcreg, Rdmreg, Wdmreg}
 use Rattle.words.specs.declared.Numbers.{Numbers}
 use Rattle.words.specs.declared.Numbers.the-variants.{Zero, One, Two, Three, Four, NotNumbers}

@@ -1,15 +1,14 @@
 -- A law of `pod`: a buffer of 2,048 words has room for the reply words of any line.
-use Prim.Native.Nat.{ℕ, suc, _+_, _*_, _≤_}
+use Prim.Native.Nat.{ℕ, _+_, _*_, _≤_}
 use native.Mathlib.Omega.{arith}
-use mathlib.Core.Path.{_≡_, refl, ap, sym, _∙_}
+use mathlib.Core.Path.{_≡_, refl, ap}
 use mathlib.Core.Bool.{Bool, true, false, cond, _&&_}
-use mathlib.Core.List.{List, [], _∷_, _++_}
+use mathlib.Core.List.{List, [], _∷_}
 use mathlib.Core.Option.{Option, none, some}
-use lib.Dec.{leb, eqb}
+use lib.Dec.{leb}
 use lib.ListN.{length, length-append}
 use borrow.Author.Tests.{leb-true}
 use Rattle.requests.specs.declared.Request.{Request}
-use Rattle.words.specs.declared.LineKind.{LineKind}
 use Rattle.words.specs.declared.LineKind.the-variants.{Silent, Clear, TooLong}
 use Rattle.words.specs.Words.{isSilent, kindOf, words, same}
 use Rattle.words.specs.Numbers.{allDigits, value, isNumeral}
@@ -20,7 +19,7 @@ use Rattle.lines.specs.declared.Asked.{Asked}
 use Rattle.lines.specs.declared.Asked.the-variants.{For, NoRequest}
 use Rattle.lines.specs.Names.{build, read, colon}
 use Rattle.lines.specs.Requests.{requestOf}
-use Rattle.lines.specs.Pod.{Meaning, nothing, builds, reads, unclear, beforeColon, afterColon, buildLine, readLine, podWords, podAt, podMeaning}
+use Rattle.lines.specs.Pod.{reads, unclear, beforeColon, afterColon, buildLine, readLine, podWords, podAt, podMeaning}
 
 -- a number has a digit
 numeral-length : (word : List ℕ) → isNumeral word ≡ true → 1 ≤ length word

@@ -1,17 +1,13 @@
 -- Laws of memory: a store keeps the length and the bytes, a fetch stays within its size, and what was stored is fetched.
-use Prim.Native.Nat.{ℕ, zero, suc, _+_, _*_, _/_, _%_, _<_, _≤_}
+use Prim.Native.Nat.{ℕ, zero, suc, _+_, _/_, _%_, _<_}
 use native.Mathlib.Omega.{arith}
-use mathlib.Core.Path.{_≡_, refl, sym, ap, _∙_}
+use mathlib.Core.Path.{_≡_, refl}
 use mathlib.Core.Bool.{Bool, true, false, cond}
 use mathlib.Core.List.{List, [], _∷_}
 use lib.ListN.{length, getD, set, length-set}
-use lib.Seq.{getD-set-same, getD-set-other}
-use borrow.Author.Tests.{leb-true}
 use Rattle.memory.specs.declared.Size.{Size}
 use Rattle.memory.specs.declared.Size.the-variants.{Byte, Word, Long}
-use Rattle.memory.specs.declared.Fetch.{Fetch}
-use Rattle.memory.specs.declared.Fetch.the-variants.{Value, BusError}
-use Rattle.memory.specs.Memory.{bytes, aligned, present, valueAt, wordAt, fetched, putAt, putWord, stored}
+use Rattle.memory.specs.Memory.{aligned, present, valueAt, putAt, putWord, stored}
 
 -- every element of a list is below a bound
 abbrev pub AllBelow : ℕ → List ℕ → Type 0

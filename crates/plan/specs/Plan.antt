@@ -1,5 +1,5 @@
 -- Packets (01): what a packet's input is taken for. A command word, an operand, or nothing where input is ignored.
-use Prim.Native.Nat.{ℕ, _+_, _*_, _-_, _%_}
+use Prim.Native.Nat.{ℕ, _+_, _*_, _-_}
 use mathlib.Core.Bool.{Bool, true, false, cond, _&&_, _||_, not}
 use lib.Dec.{eqb, leb}
 use Rattle.command.specs.declared.Command.{Command}

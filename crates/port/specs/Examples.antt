@@ -6,7 +6,6 @@ use Rattle.memory.specs.Memory.{fetched, stored}
 use Rattle.command.specs.Command.{decoded, decodedWord}
 use Rattle.board.specs.Board.{freshBoard, freshPlace}
 use Rattle.registers.specs.Csr.{csrValue, bstatRead}
-use Rattle.registers.specs.Registers.{controlPlace, controlFetched, withControl, debugLoaded, withDebugWritten}
 use Rattle.plan.specs.Plan.{ready, collected, begun, continued}
 use Rattle.port.specs.Packets.{planFor, replyNow, placeNext, boardNext, memoryNext}
 use Rattle.port.specs.Run.{State, stateOf, stepped, ran, replies}

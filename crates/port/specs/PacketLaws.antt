@@ -1,6 +1,6 @@
 -- Laws of a packet: a refusal changes nothing, and each ground comes in its order.
 use Prim.Native.Nat.{ℕ, _≤_, _<_}
-use mathlib.Core.Path.{_≡_, refl, sym, ap, _∙_}
+use mathlib.Core.Path.{_≡_, ap, _∙_}
 use mathlib.Core.Bool.{true, false}
 use mathlib.Core.List.{List}
 use lib.ListN.{length}
@@ -13,7 +13,7 @@ use Rattle.board.specs.declared.Board.{Board}
 use Rattle.board.specs.declared.Place.{Place}
 use Rattle.board.specs.Ranges.{inRange}
 use Rattle.port.specs.declared.Answer.{Answer}
-use Rattle.port.specs.Packets.{packetVerdict, replyNow, placeNext, boardNext, memoryNext, Said, said, unless}
+use Rattle.port.specs.Packets.{packetVerdict, replyNow, placeNext, boardNext, memoryNext, Said, said}
 use Rattle.port.specs.Promise.{PacketMeets}
 
 -- "A refusal returns its number, .. state, memory and result buffers stay as given."

@@ -1,6 +1,5 @@
 -- Packets (01): one packet. Its reply is fixed by the state before it; then its input is taken.
 use Prim.Native.Nat.{ℕ}
-use mathlib.Core.Bool.{Bool, true, false, cond}
 use mathlib.Core.List.{List, [], _∷_}
 use lib.Dec.{leb}
 use lib.ListN.{length}
@@ -15,7 +14,7 @@ use Rattle.board.specs.declared.Place.{Place}
 use Rattle.board.specs.declared.Phase.{Phase}
 use Rattle.board.specs.declared.Phase.the-variants.{Rest, Due, Waiting, Low}
 use Rattle.board.specs.declared.Chain.{Chain}
-use Rattle.board.specs.declared.Chain.the-variants.{Off, Dumping, Filling}
+use Rattle.board.specs.declared.Chain.the-variants.{Off}
 use Rattle.board.specs.Ranges.{inRange}
 use Rattle.registers.specs.Registers.{boardAfter}
 use Rattle.plan.specs.declared.Plan.{Plan}

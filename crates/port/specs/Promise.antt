@@ -1,6 +1,6 @@
 -- The promise of a packet: for every input its answer, the new state and each byte of memory.
 use Prim.Native.Nat.{ℕ}
-use mathlib.Core.Path.{_≡_, refl, sym, ap, _∙_}
+use mathlib.Core.Path.{_≡_, sym, ap, _∙_}
 use mathlib.Core.List.{List}
 use Rattle.grounds.specs.GroundLaws.{same-number-same-ground, number-is-not-zero}
 use Rattle.board.specs.declared.Board.{Board}

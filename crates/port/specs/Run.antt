@@ -1,13 +1,12 @@
 -- Packets (01): a run of packets over a lent list into a lent list of replies, the fold of the step.
-use Prim.Native.Nat.{ℕ, suc, _+_}
+use Prim.Native.Nat.{ℕ, _+_}
 use mathlib.Core.Path.{_≡_, sym, ap, _∙_}
 use mathlib.Core.Bool.{Bool, true, _&&_}
 use mathlib.Core.List.{List, [], _∷_, _++_}
 use lib.Dec.{leb}
-use lib.ListN.{length, set, drop}
+use lib.ListN.{length, drop}
 use Rattle.grounds.specs.declared.Ground.the-variants.{WordTooLarge, MemoryTooLong, BufferTooShort, StateOutOfRange}
 use Rattle.grounds.specs.declared.Verdict.{Verdict}
-use Rattle.grounds.specs.declared.Verdict.the-variants.{Accepted, Refused}
 use Rattle.grounds.specs.Grounds.{check, judge, told}
 use Rattle.grounds.specs.GroundLaws.{told-once}
 use Rattle.board.specs.declared.Board.{Board}

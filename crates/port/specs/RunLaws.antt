@@ -1,6 +1,6 @@
 -- Laws of a run: how its loop goes on, and where its replies stand.
 use Prim.Native.Nat.{ℕ, suc, _+_, _≤_, _<_}
-use mathlib.Core.Path.{_≡_, refl, sym, ap, _∙_}
+use mathlib.Core.Path.{_≡_, refl, sym, _∙_}
 use mathlib.Core.Bool.{Bool, true, false, _&&_}
 use mathlib.Core.List.{List, [], _∷_, _++_, append-assoc}
 use native.Mathlib.Numerals.{add-one}
@@ -12,7 +12,14 @@ use Rattle.board.specs.declared.Board.{Board}
 use Rattle.board.specs.declared.Place.{Place}
 use Rattle.plan.specs.declared.Plan.{Plan}
 use Rattle.plan.specs.Plan.{planOf}
-use Rattle.port.specs.Packets.{replyNow, boardBy, placeBy, memoryBy, planFor, boardNext, placeNext, memoryNext}
+use Rattle.plan.specs.declared.Plan.the-variants.{Hold, Reject, Release, Work}
+use Rattle.board.specs.declared.Phase.{Phase}
+use Rattle.board.specs.declared.Phase.the-variants.{Rest, Due, Waiting, Low}
+use Rattle.work.specs.declared.Ending.{Ending}
+use Rattle.work.specs.declared.Ending.the-variants.{Complete, Failed, OneWord, TwoWords}
+use Rattle.work.specs.Access.{accessOf}
+use Rattle.work.specs.Work.{endingOf, firstReply, phaseAfter}
+use Rattle.port.specs.Packets.{replyIn, replyNow, boardBy, placeBy, memoryBy, planFor, boardNext, placeNext, memoryNext}
 use Rattle.port.specs.Run.{State, stateOf, stepped, ran, replies, allWithin, runVerdict}
 use Rattle.grounds.specs.declared.Ground.the-variants.{WordTooLarge, MemoryTooLong, BufferTooShort, StateOutOfRange}
 use Rattle.grounds.specs.declared.Verdict.the-variants.{Accepted}
@@ -48,9 +55,36 @@ pub written-on : (words : List ℕ) (i : ℕ) (s : State) (out : List ℕ) → i
 unfolding written
 written-on words i s out h = rw (drop-cons words i 0 h, ← add-one i)
 
-pub goes-on : (words : List ℕ) (i : ℕ) (s : State) {next : State} (out : List ℕ) → i < length words → next ≡ stepped s (getD words i 0)
-    → (ran (drop (i + 1) words) next ≡ ran (drop i words) s) × (written (drop (i + 1) words) (i + 1) next (set out i (replyNow (s .place))) ≡ written (drop i words) i s out)
-goes-on words i s out h step = (rw step (sym (ran-on words i s h)), rw step (sym (written-on words i s out h)))
+-- after any packet the reply to the next is the one held
+pub reply-held : (s : State) (word : ℕ) {next : State} → next ≡ stepped s word → next .place .next ≡ replyNow (next .place)
+unfolding stepped placeNext replyNow
+reply-held s word step = rw step (by-plan (planFor (s .board) (s .place) word))
+  where
+    by-phase : (phase : Phase) → 0x10000 ≡ replyIn phase 0x10000
+    by-phase Rest = refl
+    by-phase (Due c left taken) = refl
+    by-phase (Waiting c left address value) = refl
+    by-phase (Low low) = refl
+
+    by-ending : (ending : Ending) → firstReply ending ≡ replyIn (phaseAfter ending) (firstReply ending)
+    by-ending Complete = refl
+    by-ending Failed = refl
+    by-ending (OneWord value) = refl
+    by-ending (TwoWords value) = refl
+
+    by-plan : (plan : Plan) → placeBy plan (s .board) (s .place) (s .memory) .next ≡ replyIn (placeBy plan (s .board) (s .place) (s .memory) .phase) (placeBy plan (s .board) (s .place) (s .memory) .next)
+    by-plan (Hold phase) = by-phase phase
+    by-plan Reject = refl
+    by-plan (Release low) = refl
+    by-plan (Work c address value) = by-ending (endingOf c (s .board) address (accessOf c (s .memory) (s .place .pointer) address))
+
+pub goes-on : (words : List ℕ) (i : ℕ) (s : State) {next : State} (out : List ℕ) {reply : ℕ} → i < length words → reply ≡ replyNow (s .place)
+    → next ≡ stepped s (getD words i 0)
+    → (ran (drop (i + 1) words) next ≡ ran (drop i words) s)
+    × (written (drop (i + 1) words) (i + 1) next (set out i reply) ≡ written (drop i words) i s out)
+    × (next .place .next ≡ replyNow (next .place))
+goes-on words i s out h e step =
+    (rw step (sym (ran-on words i s h)), rw (e, step) (sym (written-on words i s out h)), reply-held s (getD words i 0) step)
 
 pub within-on : (words : List ℕ) (i : ℕ) (within : Bool) → i < length words
     → ((leb (getD words i 0) 0x1FFFF && within) && allWithin (drop (i + 1) words)) ≡ (within && allWithin (drop i words))

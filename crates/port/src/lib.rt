@@ -1,6 +1,6 @@
 // One packet, and a run of them: the reply from the state before, then the input (01, "Packets").
 ghost use mathlib.Core.Path.{_≡_};
-ghost use Rattle.port.specs.Packets.{replyIn, chainDuring, chainIn, rejected, holding, released, placeBy, boardBy, memoryBy, replyNow, placeNext, boardNext, memoryNext, packetVerdict};
+ghost use Rattle.port.specs.Packets.{chainDuring, chainIn, rejected, holding, released, placeBy, boardBy, memoryBy, replyNow, placeNext, boardNext, memoryNext, packetVerdict};
 ghost use Rattle.port.specs.Promise.{PacketMeets};
 ghost use Rattle.port.specs.Run.{stateOf, ran, allWithin, runVerdict, RunMeets};
 ghost use Rattle.port.specs.RunLaws.{written};
@@ -332,23 +332,28 @@ fn take_words(
 {
     let mut b = board;
     let mut p = place;
+    // By the phase at first; after any packet it is the one held.
+    let mut reply = reply_of(place);
     let mut i = 0;
     while i < words.len() {
         let word = words[i];
-        replies[i] = reply_of(p);
+        replies[i] = reply;
         i += 1;
         if is_brief(p, word) {
             p = take_briefly(p, word);
+            reply = p.next;
             continue;
         }
         let plan = plan_at(p, b.status.halted, b.w, word);
         let Plan::Work(_, _, _) = plan else {
             p = settle_quietly(p, plan);
+            reply = p.next;
             continue;
         };
         let next = carry_out(b, p, memory, plan);
         b = next.board;
         p = next.place;
+        reply = p.next;
     }
     Next { board: b, place: p }
 }

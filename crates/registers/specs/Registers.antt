@@ -1,6 +1,6 @@
 -- Packets (01): the control and debug registers, and what each command's work leaves of the board.
-use Prim.Native.Nat.{ℕ, suc, _+_, _/_, _%_, _^_}
-use mathlib.Core.Bool.{Bool, true, false, cond, _||_}
+use Prim.Native.Nat.{ℕ, suc, _/_, _%_, _^_}
+use mathlib.Core.Bool.{Bool, cond, _||_}
 use mathlib.Core.List.{List, [], _∷_}
 use lib.Dec.{eqb, ltb}
 use lib.ListN.{getD, set}

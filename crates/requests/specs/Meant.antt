@@ -1,5 +1,4 @@
 -- The pod's half (01, by eye), with the table of Packets (01): the command that a request means.
-use Prim.Native.Nat.{ℕ}
 use mathlib.Core.Bool.{cond}
 use mathlib.Core.List.{List, [], _∷_}
 use lib.Dec.{eqb}

@@ -1,5 +1,5 @@
 -- Laws of the ED comparators: one agrees exactly where the data and DBR have the same bits, on its lanes, where DBMR is 0.
-use Prim.Native.Nat.{ℕ, zero, suc, _+_, _-_, _*_, _/_, _%_, _^_, _<_, _≤_, max}
+use Prim.Native.Nat.{ℕ, zero, suc, _-_, _/_, _%_, _^_, _<_, _≤_, max}
 use mathlib.Core.Path.{_≡_, refl, sym, ap, _∙_}
 use mathlib.Core.Bool.{Bool, true, false, not}
 use lib.Dec.{eqb}
@@ -9,7 +9,7 @@ use borrow.Author.Tests.{eqb-true, eqb-false, eq-eqb, ne-eqb, not-false}
 use native.Mathlib.Omega.{arith}
 use Rattle.board.specs.declared.Debug.{Debug}
 use Rattle.trigger.specs.declared.Access.{Access}
-use Rattle.trigger.specs.Masks.{bit, agree}
+use Rattle.trigger.specs.Masks.{bit}
 use Rattle.trigger.specs.MaskLaws.{no-one, or-digit, left-alone, bit-of-half, agree-then-bits, bits-then-agree}
 use Rattle.trigger.specs.Lanes.{carriedLanes, lanesRead}
 use Rattle.trigger.specs.Groups.{dataAgrees}

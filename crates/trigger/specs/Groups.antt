@@ -1,6 +1,6 @@
 -- Events and firing (01): the groups of a level, the comparators, and when a level fires.
 use Prim.Native.Nat.{ℕ, _-_, _/_, _%_, _^_}
-use mathlib.Core.Bool.{Bool, true, false, cond, not, _&&_, _||_}
+use mathlib.Core.Bool.{Bool, false, cond, not, _&&_, _||_}
 use lib.Dec.{eqb, leb}
 use lib.Bits.{bitOr}
 use Rattle.board.specs.declared.Debug.{Debug}

@@ -1,4 +1,4 @@
-use Prim.Native.Nat.{_≤_, _-_}
+use Prim.Native.Nat.{_≤_}
 use borrow.Author.Needs.{needs}
 use Rattle.console.proofs.shifted.Statement.{statement}
 use Rattle.console.proofs.shifted.Tie as tie

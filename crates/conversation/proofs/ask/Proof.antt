@@ -1,14 +1,18 @@
+use Rattle.answers.specs.BenchLaws.{lent-part}
 use lib.ListN.{length-take}
 use native.Mathlib.Omega.{arith}
 use borrow.Author.Needs.{needs}
 use Rattle.conversation.proofs.ask.Statement.{statement}
 use Rattle.conversation.proofs.ask.Tie as tie
 
+lent-of-requires : tie.Need-lent-of-requires
+lent-of-requires c κs = search needs
+
 slice-relend-prefix-converse : tie.Need-slice-relend-prefix-converse
 slice-relend-prefix-converse c = search needs
 
 slice-aggregate-converse : tie.Need-slice-aggregate-converse
-slice-aggregate-converse c = simp length-take (omega (arith, c .before .if1 .taken))
+slice-aggregate-converse c = simp length-take (omega (arith, c .before .lent-of .ensures))
 
 converse-requires : tie.Need-converse-requires
 converse-requires c κs = search needs
@@ -20,31 +24,16 @@ same-length-2 : tie.Need-same-length-2
 same-length-2 c = search needs
 
 returns : tie.Need-returns
-returns c = search needs
-
-converse-requires-2 : tie.Need-converse-requires-2
-converse-requires-2 c κs = search needs
-
-same-length-3 : tie.Need-same-length-3
-same-length-3 c = search needs
-
-same-length-4 : tie.Need-same-length-4
-same-length-4 c = search needs
-
-returns-2 : tie.Need-returns-2
-returns-2 c = search needs
+returns c = let at = c .before .before .before .before .before .before .before .before .before .before .args in let part = lent-part (at .bench .lent) (c .before .before .before .before .before .before .before .lent-of .result) (at .memory .now) (c .before .before .before .before .before .before .before .lent-of .ensures) in let taken = c .before .before .before .before .converse .ensures in (rw (← part .0) (taken .0), rw (← part .0, ← part .1, taken .1))
 
 pub ask-spec : {M : Type 1} → statement M
 ask-spec =
     tie.close
     (tie.spec
+    lent-of-requires
     slice-relend-prefix-converse
     slice-aggregate-converse
     converse-requires
     same-length
     same-length-2
-    returns
-    converse-requires-2
-    same-length-3
-    same-length-4
-    returns-2)
+    returns)

@@ -1,14 +1,10 @@
 use borrow.Author.Tests.{le-leb, lt-leb}
 use Rattle.port.proofs.still_within.Statement.{statement}
 use Rattle.port.proofs.still_within.Tie as tie
-use Rattle.port.proofs.still_within.Reads as reads
-use Rattle.port.proofs.still_within.Lts as lts
 
--- src/lib.rt:241:9
 returns : tie.Need-returns
 returns c = rw (le-leb _ _ (c .if1 .taken))
 
--- src/lib.rt:237:1
 returns-2 : tie.Need-returns-2
 returns-2 c = rw (lt-leb _ _ (c .if1 .left))
 

@@ -3,6 +3,7 @@ use Prim.Native.Nat.{_≤_, _-_}
 use mathlib.Core.Path.{_≡_, refl, sym, _∙_}
 use native.Mathlib.Omega.{arith}
 use borrow.Author.Needs.{needs}
+use Rattle.port.specs.Packets.{replyNow}
 use Rattle.port.specs.Run.{stateOf, ran}
 use Rattle.port.specs.RunLaws.{written, stepped-by, stepped-as, goes-on, ran-out, written-out}
 use Rattle.port.specs.QuietLaws.{brief-step}
@@ -11,27 +12,28 @@ use Rattle.port.proofs.take_words.Statement.{statement}
 use Rattle.port.proofs.take_words.Tie as tie
 
 abbrev Inv-loop : tie.InvT-loop
-Inv-loop memory₀ words replies₀ b₀ p₀ i₀ memory replies b p i =
+Inv-loop memory₀ words replies₀ b₀ p₀ reply₀ i₀ memory replies b p reply i =
     (i ≤ length words)
     × (length memory ≡ length memory₀)
     × (length replies ≡ length replies₀)
     × (ran (drop i words) (stateOf b p memory) ≡ ran words (stateOf b₀ p₀ memory₀))
     × (written (drop i words) i (stateOf b p memory) replies ≡ written words 0 (stateOf b₀ p₀ memory₀) replies₀)
+    × (reply ≡ replyNow p)
 
 abbrev μ-loop : tie.MeasureT-loop
-μ-loop memory₀ words replies₀ b₀ p₀ i₀ memory replies b p i = length words - i
+μ-loop memory₀ words replies₀ b₀ p₀ reply₀ i₀ memory replies b p reply i = length words - i
+
+reply-of-requires : tie.Need-reply-of-requires Inv-loop μ-loop
+reply-of-requires c κs = search needs
 
 loop-holds : tie.Need-loop-holds Inv-loop μ-loop
-loop-holds c = (omega arith, refl, refl, refl, refl)
+loop-holds c = (omega arith, refl, refl, refl, refl, c .reply-of .ensures)
 
 mul-word : tie.Need-mul-word Inv-loop μ-loop
 mul-word c = search needs
 
 shared-slice-read-word : tie.Need-shared-slice-read-word Inv-loop μ-loop
 shared-slice-read-word c = search needs
-
-reply-of-requires : tie.Need-reply-of-requires Inv-loop μ-loop
-reply-of-requires c κs = search needs
 
 mul-replies : tie.Need-mul-replies Inv-loop μ-loop
 mul-replies c = search needs
@@ -52,7 +54,7 @@ loop-less : tie.Need-loop-less Inv-loop μ-loop
 loop-less c = omega arith
 
 loop-again : tie.Need-loop-again Inv-loop μ-loop
-loop-again c = let at = c .before .before .before .before .before .before .loop in let words = c .before .before .before .before .before .before .before .before .before .before .args .words .now in let word = getD words (at .i) 0 in let step = (let stays = brief-step (at .p .phase) (at .b) (at .p) (at .memory) word refl (sym (c .before .before .is-brief .ensures) ∙ c .before .if1 .taken) in stepped-by (at .b) (at .p) (at .memory) word (stays .0) (c .take-briefly .ensures ∙ stays .1) (stays .2)) in let on = goes-on words (at .i) (stateOf (at .b) (at .p) (at .memory)) (at .replies) (c .before .before .before .before .before .loop-test .taken) step in (omega arith, at .inv .1, simp length-set (at .inv .2), on .0 ∙ at .inv .3, rw (c .before .before .before .reply-of .ensures) (on .1 ∙ at .inv .4))
+loop-again c = let at = c .before .before .before .before .before .loop in let words = c .before .before .before .before .before .before .before .before .before .before .args .words .now in let word = getD words (at .i) 0 in let step = (let stays = brief-step (at .p .phase) (at .b) (at .p) (at .memory) word refl (sym (c .before .before .is-brief .ensures) ∙ c .before .if1 .taken) in stepped-by (at .b) (at .p) (at .memory) word (stays .0) (c .take-briefly .ensures ∙ stays .1) (stays .2)) in let on = goes-on words (at .i) (stateOf (at .b) (at .p) (at .memory)) (at .replies) (c .before .before .before .before .loop-test .taken) (at .inv .5) step in (omega arith, at .inv .1, simp length-set (at .inv .2), on .0 ∙ at .inv .3, on .1 ∙ at .inv .4, on .2)
 
 plan-at-requires : tie.Need-plan-at-requires Inv-loop μ-loop
 plan-at-requires c κs = search needs
@@ -67,7 +69,7 @@ loop-less-2 : tie.Need-loop-less-2 Inv-loop μ-loop
 loop-less-2 c = omega arith
 
 loop-again-2 : tie.Need-loop-again-2 Inv-loop μ-loop
-loop-again-2 c = let at = c .before .before .before .before .before .before .before .before .loop in let words = c .before .before .before .before .before .before .before .before .before .before .before .before .args .words .now in let word = getD words (at .i) 0 in let step = (let stays = quiet (at .b) (at .p) (at .memory) (c .before .before .plan-at .result) (c .before .match .keys2) in stepped-as (at .b) (at .p) (at .memory) word (c .before .before .plan-at .ensures) (stays .0) (c .settle-quietly .ensures ∙ stays .1) (stays .2)) in let on = goes-on words (at .i) (stateOf (at .b) (at .p) (at .memory)) (at .replies) (c .before .before .before .before .before .before .before .loop-test .taken) step in (omega arith, at .inv .1, simp length-set (at .inv .2), on .0 ∙ at .inv .3, rw (c .before .before .before .before .before .reply-of .ensures) (on .1 ∙ at .inv .4))
+loop-again-2 c = let at = c .before .before .before .before .before .before .before .loop in let words = c .before .before .before .before .before .before .before .before .before .before .before .before .args .words .now in let word = getD words (at .i) 0 in let step = (let stays = quiet (at .b) (at .p) (at .memory) (c .before .before .plan-at .result) (c .before .match .keys2) in stepped-as (at .b) (at .p) (at .memory) word (c .before .before .plan-at .ensures) (stays .0) (c .settle-quietly .ensures ∙ stays .1) (stays .2)) in let on = goes-on words (at .i) (stateOf (at .b) (at .p) (at .memory)) (at .replies) (c .before .before .before .before .before .before .loop-test .taken) (at .inv .5) step in (omega arith, at .inv .1, simp length-set (at .inv .2), on .0 ∙ at .inv .3, on .1 ∙ at .inv .4, on .2)
 
 carry-out-requires : tie.Need-carry-out-requires Inv-loop μ-loop
 carry-out-requires c κs = search needs
@@ -76,7 +78,7 @@ loop-less-3 : tie.Need-loop-less-3 Inv-loop μ-loop
 loop-less-3 c = omega arith
 
 loop-again-3 : tie.Need-loop-again-3 Inv-loop μ-loop
-loop-again-3 c = let at = c .before .before .before .before .before .before .before .before .before .before .before .before .before .before .loop in let words = c .before .before .before .before .before .before .before .before .before .before .before .before .before .before .before .before .before .before .args .words .now in let word = getD words (at .i) 0 in let step = (let next = c .before .before .before .before .carry-out .ensures in stepped-as (at .b) (at .p) (at .memory) word (c .before .before .before .before .before .before .before .before .plan-at .ensures) (next .0) (next .1) (next .2)) in let on = goes-on words (at .i) (stateOf (at .b) (at .p) (at .memory)) (at .replies) (c .before .before .before .before .before .before .before .before .before .before .before .before .before .loop-test .taken) step in (omega arith, c .before .before .before .before .carry-out .kept .1 .1 .0 ∙ at .inv .1, simp length-set (at .inv .2), on .0 ∙ at .inv .3, rw (c .before .before .before .before .before .before .before .before .before .before .before .reply-of .ensures) (on .1 ∙ at .inv .4))
+loop-again-3 c = let at = c .before .before .before .before .before .before .before .before .before .before .before .before .before .loop in let words = c .before .before .before .before .before .before .before .before .before .before .before .before .before .before .before .before .before .before .args .words .now in let word = getD words (at .i) 0 in let step = (let next = c .before .before .before .before .carry-out .ensures in stepped-as (at .b) (at .p) (at .memory) word (c .before .before .before .before .before .before .before .before .plan-at .ensures) (next .0) (next .1) (next .2)) in let on = goes-on words (at .i) (stateOf (at .b) (at .p) (at .memory)) (at .replies) (c .before .before .before .before .before .before .before .before .before .before .before .before .loop-test .taken) (at .inv .5) step in (omega arith, c .before .before .before .before .carry-out .kept .1 .1 .0 ∙ at .inv .1, simp length-set (at .inv .2), on .0 ∙ at .inv .3, on .1 ∙ at .inv .4, on .2)
 
 same-length : tie.Need-same-length Inv-loop μ-loop
 same-length c = c .before .loop .inv .1
@@ -93,10 +95,10 @@ take-words-spec =
     (tie.spec
     Inv-loop
     μ-loop
+    reply-of-requires
     loop-holds
     mul-word
     shared-slice-read-word
-    reply-of-requires
     mul-replies
     slice-write-replies
     add-i

@@ -1,0 +1,44 @@
+use borrow.Author.Needs.{needs}
+use Rattle.conversation.proofs.hear.Statement.{statement}
+use Rattle.conversation.proofs.hear.Tie as tie
+
+enum-told : tie.Need-enum-told
+enum-told c = search needs
+
+read-stand-in-line-requires : tie.Need-read-stand-in-line-requires
+read-stand-in-line-requires c κs = search needs
+
+enum-told-2 : tie.Need-enum-told-2
+enum-told-2 c = search needs
+
+read-talk-line-requires : tie.Need-read-talk-line-requires
+read-talk-line-requires c κs = search needs
+
+enum-told-3 : tie.Need-enum-told-3
+enum-told-3 c = search needs
+
+hear-both-requires : tie.Need-hear-both-requires
+hear-both-requires c κs = search needs
+
+returns : tie.Need-returns
+returns c = rw (c .before .enum-told .given .1, c .read-stand-in-line .ensures)
+
+returns-2 : tie.Need-returns-2
+returns-2 c = rw (c .before .enum-told2 .given .1) (c .read-talk-line .ensures)
+
+returns-3 : tie.Need-returns-3
+returns-3 c = rw (c .before .enum-told3 .given .1) (c .hear-both .ensures)
+
+pub hear-spec : {M : Type 1} → statement M
+hear-spec =
+    tie.close
+    (tie.spec
+    enum-told
+    read-stand-in-line-requires
+    enum-told-2
+    read-talk-line-requires
+    enum-told-3
+    hear-both-requires
+    returns
+    returns-2
+    returns-3)

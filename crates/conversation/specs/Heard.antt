@@ -1,0 +1,57 @@
+-- What a line is taken for in each of the desk's languages, and what it leaves of the bench and of memory.
+use Prim.Native.Nat.{ℕ}
+use mathlib.Core.List.{List, _++_}
+use lib.ListN.{take, drop}
+use Rattle.board.specs.declared.Board.{Board}
+use Rattle.board.specs.declared.Place.{Place}
+use Rattle.port.specs.Packets.{unless}
+use Rattle.requests.specs.declared.Request.{Request}
+use Rattle.trip.specs.Exchange.{stateThere}
+use Rattle.exchange.specs.Exchange.{exchangeVerdict}
+use Rattle.exchange.specs.Promise.{restScene}
+use Rattle.lines.specs.declared.BoardLine.{BoardLine}
+use Rattle.lines.specs.declared.TalkLine.{TalkLine}
+use Rattle.lines.specs.declared.TalkLine.the-variants.{Board as BoardAsked, Ask}
+use Rattle.lines.specs.Board.{boardLine}
+use Rattle.lines.specs.Talk.{talkLine}
+use Rattle.answers.specs.declared.Bench.{Bench}
+use Rattle.answers.specs.Bench.{benchOf, benchLeft, memoryLeft}
+use Rattle.conversation.specs.declared.Language.{Language}
+use Rattle.conversation.specs.declared.Language.the-variants.{StandIn, Talk, Both}
+
+-- in both languages a line is a request of talk's, and else a line of stand_in's
+abbrev pub orStandIn : BoardLine → TalkLine → TalkLine
+orStandIn asked (BoardAsked line) = BoardAsked asked
+orStandIn asked (Ask request) = Ask request
+
+abbrev pub heard : Language → List ℕ → TalkLine
+heard StandIn line = BoardAsked (boardLine line)
+heard Talk line = talkLine line
+heard Both line = orStandIn (boardLine line) (talkLine line)
+
+-- "A REQUEST alone on its line is sent and its replies read": what the exchange leaves, or all as it was where it is refused
+abbrev pub boardAsked : Request → Board → Place → List ℕ → Board
+boardAsked request b p m = unless (exchangeVerdict request b p m) (stateThere request (restScene b p m) .board) b
+
+abbrev pub placeAsked : Request → Board → Place → List ℕ → Place
+placeAsked request b p m = unless (exchangeVerdict request b p m) (stateThere request (restScene b p m) .place) p
+
+abbrev pub memoryAsked : Request → Board → Place → List ℕ → List ℕ
+memoryAsked request b p m = unless (exchangeVerdict request b p m) (stateThere request (restScene b p m) .memory) m
+
+-- the exchange sees the bytes lent, of those that there are, and no others
+abbrev pub lentAsked : Request → Bench → List ℕ → List ℕ
+lentAsked request bench m = memoryAsked request (bench .board) (bench .place) (take (bench .lent) m) ++ drop (bench .lent) m
+
+-- the bench and memory after a line
+abbrev pub benchTold : TalkLine → Bench → List ℕ → Bench
+benchTold (BoardAsked asked) bench m = benchLeft asked bench m
+benchTold (Ask request) bench m =
+    benchOf
+    (boardAsked request (bench .board) (bench .place) (take (bench .lent) m))
+    (placeAsked request (bench .board) (bench .place) (take (bench .lent) m))
+    (bench .lent)
+
+abbrev pub memoryTold : List ℕ → TalkLine → Bench → List ℕ → List ℕ
+memoryTold line (BoardAsked asked) bench m = memoryLeft line asked bench m
+memoryTold line (Ask request) bench m = lentAsked request bench m
