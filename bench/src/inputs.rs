@@ -1,4 +1,4 @@
-//! What is measured: packets and recorded traces, the same in every run. The code was tuned on the first of each kind alone.
+//! What is measured: packets and recorded traces, the same in every run. The code was tuned on the first of each kind.
 
 use second::board::Board;
 use second::command::{Size, CONTROL_REGISTERS};
