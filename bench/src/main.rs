@@ -1,5 +1,6 @@
 //! `bench`: the proved run of packets and listing against the second program's, interleaved, in rounds. `bench agree` only shows that the
-//! two agree. `bench count WHAT WHOSE TIMES` does one of them so many times and nothing else, so that its instructions can be counted.
+//! two agree, and `bench names` what there is to measure. `bench count WHAT WHOSE TIMES` does one of them so many times and nothing else, so
+//! that its instructions can be counted.
 
 mod inputs;
 mod ours;
@@ -10,7 +11,7 @@ use rounds::Contest;
 use std::process::ExitCode;
 use work::Work;
 
-const USAGE: &str = "usage: bench | bench agree | bench count WHAT ours|second TIMES";
+const USAGE: &str = "usage: bench | bench agree | bench names | bench count WHAT ours|second TIMES";
 
 fn contests() -> [Contest; 6] {
     [
@@ -37,6 +38,10 @@ fn main() -> ExitCode {
     let done = match arguments[..] {
         [] => contests().iter().try_for_each(Contest::hold),
         ["agree"] => contests().iter().try_for_each(Contest::agree),
+        ["names"] => {
+            contests().iter().for_each(|contest| println!("{}", contest.what));
+            Ok(())
+        }
         ["count", what, whose, times] => count(what, whose, times),
         _ => Err(USAGE.to_string()),
     };
