@@ -1,4 +1,4 @@
-//! `second NAME ..`: the desk's programs, the morning's check, the stored lines, and the comparison with other programs.
+//! `second NAME ..`: the desk's programs, the morning's check, the vectors, and the comparison with other programs.
 
 use second::desk::{self, morning};
 use second::{check, stored};

@@ -69,7 +69,7 @@ fn a_difference_is_shown_with_its_cause() {
     let directory = programs("changed", "stand_in", "sed s/10001/10002/");
     let bin = directory.to_str().unwrap();
     let (good, text) = second(&["compare", bin, &vectors()]);
-    assert!(!good && text.contains("DIFFERS stand_in/boundaries\n"), "{text}");
+    assert!(!good && text.contains("DIFFERS stand_in/by_eye\n"), "{text}");
     assert!(text.contains("  expected: reply 10001\n  actual:   reply 10002\n"), "{text}");
     let (good, text) = second(&["random", bin, "1", "20"]);
     assert!(!good && text.contains("the shortest script found:\n    packet "), "{text}");

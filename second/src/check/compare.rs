@@ -1,11 +1,11 @@
-//! The programs under test over the stored inputs.
+//! The programs under test over a folder of vectors.
 
 use super::difference::try_expected;
 use super::expect::{read_file, scripts_of};
 use super::Found;
 use std::path::Path;
 
-/// Runs every stored input and compares with the stored output. True if all agree.
+/// Runs every input and compares with its output. True if all agree.
 pub fn compare(programs: &Path, vectors: &Path, all: bool) -> Result<bool, String> {
     let found = Found::within(programs);
     let mut good = found.report(all);
@@ -13,7 +13,7 @@ pub fn compare(programs: &Path, vectors: &Path, all: bool) -> Result<bool, Strin
     for (name, program) in &found.present {
         let scripts = scripts_of(name, vectors)?;
         if scripts.is_empty() {
-            println!("no stored inputs for {name}");
+            println!("no inputs for {name}");
             good = false;
         }
         for script in scripts {

@@ -1,11 +1,11 @@
-//! The stored outputs: what this program prints for the stored inputs.
+//! The outputs of a folder of vectors: what this program prints for its inputs.
 
 use super::PROGRAMS;
 use crate::desk::output_of;
 use std::fs;
 use std::path::{Path, PathBuf};
 
-/// The stored inputs of a program, in the order of their names.
+/// The inputs of a program, in the order of their names.
 pub fn scripts_of(program: &str, vectors: &Path) -> Result<Vec<PathBuf>, String> {
     let directory = vectors.join(program);
     if !directory.is_dir() {

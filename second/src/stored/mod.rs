@@ -1,4 +1,4 @@
-//! The stored inputs: readable scripts, written anew by `second gen`, always the same.
+//! The bulk of the vectors: inputs written anew by `second gen`, always the same. Of these git keeps the digests.
 
 mod boundaries;
 mod chains;
@@ -16,7 +16,7 @@ mod unclear;
 use std::fs;
 use std::path::Path;
 
-/// A stored input: its name without the ending, and its bytes.
+/// An input of the bulk: its name without the ending, and its bytes.
 pub struct Stored {
     pub program: &'static str,
     pub name: String,
@@ -33,7 +33,7 @@ impl Stored {
     }
 }
 
-/// Every stored input.
+/// Every input of the bulk.
 pub fn all() -> Vec<Stored> {
     let mut stored = Vec::new();
     stored.extend(commands::all());
@@ -51,7 +51,7 @@ pub fn all() -> Vec<Stored> {
     stored
 }
 
-/// Writes NAME.in for every stored input, by program.
+/// Writes NAME.in for every input of the bulk, by program.
 pub fn generate(vectors: &Path) -> Result<(), String> {
     for stored in all() {
         let directory = vectors.join(stored.program);

@@ -96,6 +96,16 @@ pub fn cycles(text: &str) -> Vec<u8> {
     text.split_whitespace().map(|byte| u8::from_str_radix(byte, 16).unwrap()).collect()
 }
 
+/// Cycles in hexadecimal, where `20*3` is `20 20 20`.
+pub fn trace(text: &str) -> Vec<u8> {
+    let mut trace = Vec::new();
+    for word in text.split_whitespace() {
+        let (byte, count) = word.split_once('*').unwrap_or((word, "1"));
+        trace.extend(cycles(byte).repeat(count.parse().unwrap()));
+    }
+    trace
+}
+
 /// The items of a trace as (cycle, code, value), or the refusal's number and cycle.
 pub type Listing = Result<Vec<(u32, u32, u32)>, (u8, u32)>;
 
