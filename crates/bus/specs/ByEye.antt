@@ -8,7 +8,7 @@ use lib.Bits.{bitOr}
 use borrow.Author.Tests.{eq-eqb}
 use Rattle.command.specs.declared.DebugRegister.{DebugRegister}
 use Rattle.command.specs.declared.DebugRegister.the-variants.{Aatr, Tdr, Pbr, Pbmr, Ablr}
-use Rattle.command.specs.declared.Command.the-variants.{Go, Wdmreg}
+use Rattle.command.specs.Command as command
 use Rattle.grounds.specs.Grounds.{noRefusal}
 use Rattle.board.specs.declared.Board.{Board}
 use Rattle.board.specs.Board.{freshBoard, freshPlace}
@@ -25,10 +25,10 @@ use Rattle.bus.specs.Answers.{EventTold, eventTold}
 use Rattle.bus.specs.Events.{eventVerdict, eventOutcome, boardAfterEvent}
 
 abbrev wdmreg : DebugRegister → ℕ → Board → Board
-wdmreg r value b = boardAfter (Wdmreg r) b 0 value
+wdmreg r value b = boardAfter (command.wdmreg r) b 0 value
 
 abbrev go : Board → Board
-go b = boardAfter Go b 0 0
+go b = boardAfter command.go b 0 0
 
 abbrev start : ℕ → Event
 start pc = record { pc = pc; bus = Idle }

@@ -5,9 +5,54 @@ use mathlib.Core.List.{List, [], _∷_}
 use lib.Dec.{eqb}
 use Rattle.memory.specs.declared.Size.{Size}
 use Rattle.memory.specs.declared.Size.the-variants.{Byte, Word, Long}
+use Rattle.command.specs.declared.DebugRegister.{DebugRegister}
 use Rattle.command.specs.declared.DebugRegister.the-variants.{Csr, Baar, Aatr, Tdr, Pbr, Pbmr, Abhr, Ablr, Dbr, Dbmr}
 use Rattle.command.specs.declared.Command.{Command}
-use Rattle.command.specs.declared.Command.the-variants.{Unknown, Rdreg, Wdreg, Read, Write, Dump, Fill, Go, Nop, SyncPc, Rcreg, Wcreg, Rdmreg, Wdmreg}
+use Rattle.command.specs.declared.Command.the-variants.{Unknown, Nop, Load, Store, Show, Change}
+use Rattle.command.specs.declared.Base.{Base}
+use Rattle.command.specs.declared.Base.the-variants.{Address, Pointer}
+use Rattle.command.specs.declared.Source.the-variants as source
+use Rattle.command.specs.declared.Target.the-variants as target
+
+-- the commands by their names in the table
+abbrev pub read : Size → Command
+read s = Load s Address
+
+abbrev pub dump : Size → Command
+dump s = Load s Pointer
+
+abbrev pub write : Size → Command
+write s = Store s Address
+
+abbrev pub fill : Size → Command
+fill s = Store s Pointer
+
+abbrev pub rdreg : ℕ → Command
+rdreg n = Show (source.General n)
+
+abbrev pub wdreg : ℕ → Command
+wdreg n = Change (target.General n)
+
+abbrev pub rcreg : Command
+rcreg = Show source.Control
+
+abbrev pub wcreg : Command
+wcreg = Change target.Control
+
+abbrev pub rdmreg : Command
+rdmreg = Show source.Csr
+
+abbrev pub wdmreg : DebugRegister → Command
+wdmreg r = Change (target.Debug r)
+
+abbrev pub go : Command
+go = Change target.Run
+
+abbrev pub nop : Command
+nop = Nop
+
+abbrev pub syncPc : Command
+syncPc = Change target.Sync
 
 -- a line of the table with one word
 pub record Row : Type 0 where
@@ -20,34 +65,34 @@ row w c = record { word = w; command = c }
 -- the words of the table but for the two ranges of RDREG/RAREG and WDREG/WAREG; RDMREG takes n = 0, WDMREG the ten registers listed
 abbrev pub table : List Row
 table =
-    row 0x1900 (Read Byte)
-    ∷ row 0x1940 (Read Word)
-    ∷ row 0x1980 (Read Long)
-    ∷ row 0x1800 (Write Byte)
-    ∷ row 0x1840 (Write Word)
-    ∷ row 0x1880 (Write Long)
-    ∷ row 0x1D00 (Dump Byte)
-    ∷ row 0x1D40 (Dump Word)
-    ∷ row 0x1D80 (Dump Long)
-    ∷ row 0x1C00 (Fill Byte)
-    ∷ row 0x1C40 (Fill Word)
-    ∷ row 0x1C80 (Fill Long)
-    ∷ row 0x0C00 Go
+    row 0x1900 (read Byte)
+    ∷ row 0x1940 (read Word)
+    ∷ row 0x1980 (read Long)
+    ∷ row 0x1800 (write Byte)
+    ∷ row 0x1840 (write Word)
+    ∷ row 0x1880 (write Long)
+    ∷ row 0x1D00 (dump Byte)
+    ∷ row 0x1D40 (dump Word)
+    ∷ row 0x1D80 (dump Long)
+    ∷ row 0x1C00 (fill Byte)
+    ∷ row 0x1C40 (fill Word)
+    ∷ row 0x1C80 (fill Long)
+    ∷ row 0x0C00 go
     ∷ row 0x0000 Nop
-    ∷ row 0x0001 SyncPc
-    ∷ row 0x2980 Rcreg
-    ∷ row 0x2880 Wcreg
-    ∷ row 0x2D80 Rdmreg
-    ∷ row 0x2C80 (Wdmreg Csr)
-    ∷ row 0x2C85 (Wdmreg Baar)
-    ∷ row 0x2C86 (Wdmreg Aatr)
-    ∷ row 0x2C87 (Wdmreg Tdr)
-    ∷ row 0x2C88 (Wdmreg Pbr)
-    ∷ row 0x2C89 (Wdmreg Pbmr)
-    ∷ row 0x2C8C (Wdmreg Abhr)
-    ∷ row 0x2C8D (Wdmreg Ablr)
-    ∷ row 0x2C8E (Wdmreg Dbr)
-    ∷ row 0x2C8F (Wdmreg Dbmr)
+    ∷ row 0x0001 syncPc
+    ∷ row 0x2980 rcreg
+    ∷ row 0x2880 wcreg
+    ∷ row 0x2D80 rdmreg
+    ∷ row 0x2C80 (wdmreg Csr)
+    ∷ row 0x2C85 (wdmreg Baar)
+    ∷ row 0x2C86 (wdmreg Aatr)
+    ∷ row 0x2C87 (wdmreg Tdr)
+    ∷ row 0x2C88 (wdmreg Pbr)
+    ∷ row 0x2C89 (wdmreg Pbmr)
+    ∷ row 0x2C8C (wdmreg Abhr)
+    ∷ row 0x2C8D (wdmreg Ablr)
+    ∷ row 0x2C8E (wdmreg Dbr)
+    ∷ row 0x2C8F (wdmreg Dbmr)
     ∷ []
 
 -- "Any other word" is no command
@@ -60,7 +105,7 @@ decodedWord w = lookedUp w table
 
 -- RDREG/RAREG "0x2180 to 0x218F", WDREG/WAREG "0x2080 to 0x208F", and the table
 unfoldable pub decoded : ℕ → Command
-decoded w = cond (eqb (w / 16) 0x218) (Rdreg (w % 16)) (cond (eqb (w / 16) 0x208) (Wdreg (w % 16)) (decodedWord w))
+decoded w = cond (eqb (w / 16) 0x218) (rdreg (w % 16)) (cond (eqb (w / 16) 0x208) (wdreg (w % 16)) (decodedWord w))
 
 -- the words that a value of the size takes on the port
 abbrev pub sizeWords : Size → ℕ
@@ -68,70 +113,48 @@ sizeWords Byte = 1
 sizeWords Word = 1
 sizeWords Long = 2
 
--- the column "Operand words"
-abbrev pub operandWords : Command → ℕ
-operandWords Unknown = 0
-operandWords (Rdreg n) = 0
-operandWords (Wdreg n) = 2
-operandWords (Read s) = 2
-operandWords (Write s) = 2 + sizeWords s
-operandWords (Dump s) = 0
-operandWords (Fill s) = sizeWords s
-operandWords Go = 0
-operandWords Nop = 0
-operandWords SyncPc = 0
-operandWords Rcreg = 2
-operandWords Wcreg = 4
-operandWords Rdmreg = 0
-operandWords (Wdmreg r) = 2
+-- an address sent takes two
+abbrev pub loadWords : Base → ℕ
+loadWords Address = 2
+loadWords Pointer = 0
 
--- the column "Result words"; 0 where it says "complete"
-abbrev pub resultWords : Command → ℕ
-resultWords Unknown = 0
-resultWords (Rdreg n) = 2
-resultWords (Wdreg n) = 0
-resultWords (Read s) = sizeWords s
-resultWords (Write s) = 0
-resultWords (Dump s) = sizeWords s
-resultWords (Fill s) = 0
-resultWords Go = 0
-resultWords Nop = 0
-resultWords SyncPc = 0
-resultWords Rcreg = 2
-resultWords Wcreg = 0
-resultWords Rdmreg = 2
-resultWords (Wdmreg r) = 0
+abbrev pub storeWords : Base → Size → ℕ
+storeWords Address s = 2 + sizeWords s
+storeWords Pointer s = sizeWords s
 
--- the column "Processor": halted, and not any
-abbrev pub haltedOnly : Command → Bool
-haltedOnly Unknown = false
-haltedOnly (Rdreg n) = true
-haltedOnly (Wdreg n) = true
-haltedOnly (Read s) = false
-haltedOnly (Write s) = false
-haltedOnly (Dump s) = false
-haltedOnly (Fill s) = false
-haltedOnly Go = true
-haltedOnly Nop = false
-haltedOnly SyncPc = false
-haltedOnly Rcreg = true
-haltedOnly Wcreg = true
-haltedOnly Rdmreg = false
-haltedOnly (Wdmreg r) = false
-
+-- a line of the table beside its word: "Operand words"; "Result words", 0 where it says "complete"; "Processor", halted and not any; and
 -- "memory and control-register commands wait W packets"
+pub record Columns : Type 0 where
+  pub operands : ℕ
+  pub results : ℕ
+  pub halted : Bool
+  pub waiting : Bool
+
+abbrev columns : ℕ → ℕ → Bool → Bool → Columns
+columns operands results halted waiting = record { operands = operands; results = results; halted = halted; waiting = waiting }
+
+abbrev pub line : Command → Columns
+line (Show (source.General n)) = columns 0 2 true false
+line (Change (target.General n)) = columns 2 0 true false
+line (Load s base) = columns (loadWords base) (sizeWords s) false true
+line (Store s base) = columns (storeWords base s) 0 false true
+line (Change target.Run) = columns 0 0 true false
+line Nop = columns 0 0 false false
+line (Change target.Sync) = columns 0 0 false false
+line (Show source.Control) = columns 2 2 true true
+line (Change target.Control) = columns 4 0 true true
+line (Show source.Csr) = columns 0 2 false false
+line (Change (target.Debug r)) = columns 2 0 false false
+line Unknown = columns 0 0 false false
+
+abbrev pub operandWords : Command → ℕ
+operandWords c = line c .operands
+
+abbrev pub resultWords : Command → ℕ
+resultWords c = line c .results
+
+abbrev pub haltedOnly : Command → Bool
+haltedOnly c = line c .halted
+
 abbrev pub waits : Command → Bool
-waits Unknown = false
-waits (Rdreg n) = false
-waits (Wdreg n) = false
-waits (Read s) = true
-waits (Write s) = true
-waits (Dump s) = true
-waits (Fill s) = true
-waits Go = false
-waits Nop = false
-waits SyncPc = false
-waits Rcreg = true
-waits Wcreg = true
-waits Rdmreg = false
-waits (Wdmreg r) = false
+waits c = line c .waiting

@@ -17,55 +17,74 @@ pub enum DebugRegister {
     Dbmr,
 }
 
+// Where an access to memory begins: at the address sent, or at the pointer.
+pub enum Base {
+    Address,
+    Pointer,
+}
+
+// What a command shows of the board.
+pub enum Source {
+    General(u8),
+    Control,
+    Csr,
+}
+
+// What a command changes of the board.
+pub enum Target {
+    General(u8),
+    Control,
+    Debug(DebugRegister),
+    Run,
+    Sync,
+}
+
+// A command is what it does.
 pub enum Command {
     Unknown,
-    Rdreg(u32),
-    Wdreg(u32),
-    Read(Size),
-    Write(Size),
-    Dump(Size),
-    Fill(Size),
-    Go,
     Nop,
-    SyncPc,
-    Rcreg,
-    Wcreg,
-    Rdmreg,
-    Wdmreg(DebugRegister),
+    // READ; DUMP from the pointer.
+    Load(Size, Base),
+    // WRITE; FILL from the pointer.
+    Store(Size, Base),
+    // RDREG/RAREG, RCREG, RDMREG.
+    Show(Source),
+    // WDREG/WAREG, WCREG, WDMREG, GO, SYNC_PC.
+    Change(Target),
 }
 
 fn decode_word(word: u32) -> Command
     ensures { λ r. ⌜ r ≡ decodedWord word ⌝ }
 {
     match word {
-        0x1900 => Command::Read(Size::Byte),
-        0x1940 => Command::Read(Size::Word),
-        0x1980 => Command::Read(Size::Long),
-        0x1800 => Command::Write(Size::Byte),
-        0x1840 => Command::Write(Size::Word),
-        0x1880 => Command::Write(Size::Long),
-        0x1D00 => Command::Dump(Size::Byte),
-        0x1D40 => Command::Dump(Size::Word),
-        0x1D80 => Command::Dump(Size::Long),
-        0x1C00 => Command::Fill(Size::Byte),
-        0x1C40 => Command::Fill(Size::Word),
-        0x1C80 => Command::Fill(Size::Long),
-        0x0C00 => Command::Go,
+        0x1900 => Command::Load(Size::Byte, Base::Address),
+        0x1940 => Command::Load(Size::Word, Base::Address),
+        0x1980 => Command::Load(Size::Long, Base::Address),
+        0x1800 => Command::Store(Size::Byte, Base::Address),
+        0x1840 => Command::Store(Size::Word, Base::Address),
+        0x1880 => Command::Store(Size::Long, Base::Address),
+        0x1D00 => Command::Load(Size::Byte, Base::Pointer),
+        0x1D40 => Command::Load(Size::Word, Base::Pointer),
+        0x1D80 => Command::Load(Size::Long, Base::Pointer),
+        0x1C00 => Command::Store(Size::Byte, Base::Pointer),
+        0x1C40 => Command::Store(Size::Word, Base::Pointer),
+        0x1C80 => Command::Store(Size::Long, Base::Pointer),
+        0x0C00 => Command::Change(Target::Run),
         0x0000 => Command::Nop,
-        0x0001 => Command::SyncPc,
-        0x2980 => Command::Rcreg,
-        0x2880 => Command::Wcreg,
-        0x2D80 => Command::Rdmreg,
-        0x2C80 => Command::Wdmreg(DebugRegister::Csr),
-        0x2C85 => Command::Wdmreg(DebugRegister::Baar),
-        0x2C86 => Command::Wdmreg(DebugRegister::Aatr),
-        0x2C87 => Command::Wdmreg(DebugRegister::Tdr),
-        0x2C88 => Command::Wdmreg(DebugRegister::Pbr),
-        0x2C89 => Command::Wdmreg(DebugRegister::Pbmr),
-        0x2C8C => Command::Wdmreg(DebugRegister::Abhr),
-        0x2C8D => Command::Wdmreg(DebugRegister::Ablr),
-        0x2C8E => Command::Wdmreg(DebugRegister::Dbr),
-        0x2C8F => Command::Wdmreg(DebugRegister::Dbmr),
+        0x0001 => Command::Change(Target::Sync),
+        0x2980 => Command::Show(Source::Control),
+        0x2880 => Command::Change(Target::Control),
+        0x2D80 => Command::Show(Source::Csr),
+        0x2C80 => Command::Change(Target::Debug(DebugRegister::Csr)),
+        0x2C85 => Command::Change(Target::Debug(DebugRegister::Baar)),
+        0x2C86 => Command::Change(Target::Debug(DebugRegister::Aatr)),
+        0x2C87 => Command::Change(Target::Debug(DebugRegister::Tdr)),
+        0x2C88 => Command::Change(Target::Debug(DebugRegister::Pbr)),
+        0x2C89 => Command::Change(Target::Debug(DebugRegister::Pbmr)),
+        0x2C8C => Command::Change(Target::Debug(DebugRegister::Abhr)),
+        0x2C8D => Command::Change(Target::Debug(DebugRegister::Ablr)),
+        0x2C8E => Command::Change(Target::Debug(DebugRegister::Dbr)),
+        0x2C8F => Command::Change(Target::Debug(DebugRegister::Dbmr)),
         _ => Command::Unknown,
     }
 }
@@ -75,10 +94,10 @@ pub fn decode(word: u32) -> Command
 {
     let row = word / 16;
     if row == 0x218 {
-        return Command::Rdreg(word % 16);
+        return Command::Show(Source::General((word % 16) as u8));
     }
     if row == 0x208 {
-        return Command::Wdreg(word % 16);
+        return Command::Change(Target::General((word % 16) as u8));
     }
     decode_word(word)
 }
@@ -88,27 +107,35 @@ pub fn operand_count(command: Command) -> u32
 {
     match command {
         Command::Unknown => 0,
-        Command::Rdreg(_) => 0,
-        Command::Wdreg(_) => 2,
-        Command::Read(_) => 2,
-        Command::Write(size) => match size {
-            Size::Byte => 3,
-            Size::Word => 3,
-            Size::Long => 4,
-        },
-        Command::Dump(_) => 0,
-        Command::Fill(size) => match size {
-            Size::Byte => 1,
-            Size::Word => 1,
-            Size::Long => 2,
-        },
-        Command::Go => 0,
         Command::Nop => 0,
-        Command::SyncPc => 0,
-        Command::Rcreg => 2,
-        Command::Wcreg => 4,
-        Command::Rdmreg => 0,
-        Command::Wdmreg(_) => 2,
+        Command::Load(_, base) => match base {
+            Base::Address => 2,
+            Base::Pointer => 0,
+        },
+        Command::Store(size, base) => match base {
+            Base::Address => match size {
+                Size::Byte => 3,
+                Size::Word => 3,
+                Size::Long => 4,
+            },
+            Base::Pointer => match size {
+                Size::Byte => 1,
+                Size::Word => 1,
+                Size::Long => 2,
+            },
+        },
+        Command::Show(source) => match source {
+            Source::General(_) => 0,
+            Source::Control => 2,
+            Source::Csr => 0,
+        },
+        Command::Change(target) => match target {
+            Target::General(_) => 2,
+            Target::Control => 4,
+            Target::Debug(_) => 2,
+            Target::Run => 0,
+            Target::Sync => 0,
+        },
     }
 }
 
@@ -117,19 +144,21 @@ pub fn needs_halted(command: Command) -> bool
 {
     match command {
         Command::Unknown => false,
-        Command::Rdreg(_) => true,
-        Command::Wdreg(_) => true,
-        Command::Read(_) => false,
-        Command::Write(_) => false,
-        Command::Dump(_) => false,
-        Command::Fill(_) => false,
-        Command::Go => true,
         Command::Nop => false,
-        Command::SyncPc => false,
-        Command::Rcreg => true,
-        Command::Wcreg => true,
-        Command::Rdmreg => false,
-        Command::Wdmreg(_) => false,
+        Command::Load(_, _) => false,
+        Command::Store(_, _) => false,
+        Command::Show(source) => match source {
+            Source::General(_) => true,
+            Source::Control => true,
+            Source::Csr => false,
+        },
+        Command::Change(target) => match target {
+            Target::General(_) => true,
+            Target::Control => true,
+            Target::Debug(_) => false,
+            Target::Run => true,
+            Target::Sync => false,
+        },
     }
 }
 
@@ -138,18 +167,20 @@ pub fn is_waiting(command: Command) -> bool
 {
     match command {
         Command::Unknown => false,
-        Command::Rdreg(_) => false,
-        Command::Wdreg(_) => false,
-        Command::Read(_) => true,
-        Command::Write(_) => true,
-        Command::Dump(_) => true,
-        Command::Fill(_) => true,
-        Command::Go => false,
         Command::Nop => false,
-        Command::SyncPc => false,
-        Command::Rcreg => true,
-        Command::Wcreg => true,
-        Command::Rdmreg => false,
-        Command::Wdmreg(_) => false,
+        Command::Load(_, _) => true,
+        Command::Store(_, _) => true,
+        Command::Show(source) => match source {
+            Source::General(_) => false,
+            Source::Control => true,
+            Source::Csr => false,
+        },
+        Command::Change(target) => match target {
+            Target::General(_) => false,
+            Target::Control => true,
+            Target::Debug(_) => false,
+            Target::Run => false,
+            Target::Sync => false,
+        },
     }
 }

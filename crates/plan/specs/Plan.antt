@@ -3,7 +3,8 @@ use Prim.Native.Nat.{ℕ, _+_, _*_, _-_}
 use mathlib.Core.Bool.{Bool, true, false, cond, _&&_, _||_, not}
 use lib.Dec.{eqb, leb}
 use Rattle.command.specs.declared.Command.{Command}
-use Rattle.command.specs.declared.Command.the-variants.{Unknown, Rdreg, Wdreg, Read, Write, Dump, Fill, Go, Nop, SyncPc, Rcreg, Wcreg, Rdmreg, Wdmreg}
+use Rattle.command.specs.declared.Command.the-variants.{Unknown, Nop, Load, Store, Show, Change}
+use Rattle.command.specs.declared.Base.the-variants.{Address, Pointer}
 use Rattle.command.specs.Command.{decoded, operandWords, haltedOnly, waits}
 use Rattle.board.specs.declared.Operands.{Operands}
 use Rattle.board.specs.declared.Phase.{Phase}
@@ -30,19 +31,13 @@ isFilling Filling = true
 -- "DUMP is legal only after READ or DUMP, FILL only after WRITE or FILL"; "Any other word .. is illegal"
 abbrev pub follows : Command → Chain → Bool
 follows Unknown chain = false
-follows (Rdreg n) chain = true
-follows (Wdreg n) chain = true
-follows (Read s) chain = true
-follows (Write s) chain = true
-follows (Dump s) chain = isDumping chain
-follows (Fill s) chain = isFilling chain
-follows Go chain = true
 follows Nop chain = true
-follows SyncPc chain = true
-follows Rcreg chain = true
-follows Wcreg chain = true
-follows Rdmreg chain = true
-follows (Wdmreg r) chain = true
+follows (Load s Address) chain = true
+follows (Load s Pointer) chain = isDumping chain
+follows (Store s Address) chain = true
+follows (Store s Pointer) chain = isFilling chain
+follows (Show source) chain = true
+follows (Change target) chain = true
 
 -- ".. or a "halted" command while running, is illegal"
 abbrev pub legal : Command → Bool → Chain → Bool

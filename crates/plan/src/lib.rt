@@ -5,6 +5,7 @@ ghost use Rattle.plan.specs.Plan.{isDumping, isFilling, follows, legal, 
 use board::Chain;
 use board::Operands;
 use board::Phase;
+use command::Base;
 use command::Command;
 
 pub enum Plan {
@@ -43,19 +44,17 @@ fn may_follow(command: Command, chain: Chain) -> bool
 {
     match command {
         Command::Unknown => false,
-        Command::Rdreg(_) => true,
-        Command::Wdreg(_) => true,
-        Command::Read(_) => true,
-        Command::Write(_) => true,
-        Command::Dump(_) => is_dumping(chain),
-        Command::Fill(_) => is_filling(chain),
-        Command::Go => true,
         Command::Nop => true,
-        Command::SyncPc => true,
-        Command::Rcreg => true,
-        Command::Wcreg => true,
-        Command::Rdmreg => true,
-        Command::Wdmreg(_) => true,
+        Command::Load(_, base) => match base {
+            Base::Address => true,
+            Base::Pointer => is_dumping(chain),
+        },
+        Command::Store(_, base) => match base {
+            Base::Address => true,
+            Base::Pointer => is_filling(chain),
+        },
+        Command::Show(_) => true,
+        Command::Change(_) => true,
     }
 }
 

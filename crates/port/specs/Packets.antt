@@ -8,7 +8,8 @@ use Rattle.grounds.specs.declared.Verdict.{Verdict}
 use Rattle.grounds.specs.declared.Verdict.the-variants.{Accepted, Refused}
 use Rattle.grounds.specs.Grounds.{check, judge, Refusal, noRefusal, refusalOf}
 use Rattle.command.specs.declared.Command.{Command}
-use Rattle.command.specs.declared.Command.the-variants.{Unknown, Rdreg, Wdreg, Read, Write, Dump, Fill, Go, Nop, SyncPc, Rcreg, Wcreg, Rdmreg, Wdmreg}
+use Rattle.command.specs.declared.Command.the-variants.{Unknown, Nop, Load, Store, Show, Change}
+use Rattle.command.specs.declared.Base.the-variants.{Address, Pointer}
 use Rattle.board.specs.declared.Board.{Board}
 use Rattle.board.specs.declared.Place.{Place}
 use Rattle.board.specs.declared.Phase.{Phase}
@@ -35,19 +36,13 @@ replyIn (Low low) next = next
 -- while a command is under way "DUMP and FILL keep theirs", any other has none
 abbrev pub chainDuring : Command → Chain → Chain
 chainDuring Unknown chain = Off
-chainDuring (Rdreg n) chain = Off
-chainDuring (Wdreg n) chain = Off
-chainDuring (Read s) chain = Off
-chainDuring (Write s) chain = Off
-chainDuring (Dump s) chain = chain
-chainDuring (Fill s) chain = chain
-chainDuring Go chain = Off
 chainDuring Nop chain = chain
-chainDuring SyncPc chain = Off
-chainDuring Rcreg chain = Off
-chainDuring Wcreg chain = Off
-chainDuring Rdmreg chain = Off
-chainDuring (Wdmreg r) chain = Off
+chainDuring (Load s Address) chain = Off
+chainDuring (Load s Pointer) chain = chain
+chainDuring (Store s Address) chain = Off
+chainDuring (Store s Pointer) chain = chain
+chainDuring (Show source) chain = Off
+chainDuring (Change target) chain = Off
 
 abbrev pub chainIn : Phase → Chain → Chain
 chainIn Rest chain = chain

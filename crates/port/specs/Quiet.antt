@@ -3,7 +3,8 @@ use Prim.Native.Nat.{ℕ, _-_}
 use mathlib.Core.Bool.{Bool, true, false, _&&_}
 use lib.Dec.{eqb, leb}
 use Rattle.command.specs.declared.Command.{Command}
-use Rattle.command.specs.declared.Command.the-variants.{Unknown, Rdreg, Wdreg, Read, Write, Dump, Fill, Go, Nop, SyncPc, Rcreg, Wcreg, Rdmreg, Wdmreg}
+use Rattle.command.specs.declared.Command.the-variants.{Unknown, Nop, Load, Store, Show, Change}
+use Rattle.command.specs.declared.Source.the-variants as source
 use Rattle.board.specs.declared.Place.{Place}
 use Rattle.board.specs.declared.Phase.{Phase}
 use Rattle.board.specs.declared.Phase.the-variants.{Rest, Due, Waiting, Low}
@@ -15,19 +16,13 @@ use Rattle.port.specs.Packets.{holding, rejected, released}
 -- the commands whose work leaves the board alone
 abbrev pub leavesBoard : Command → Bool
 leavesBoard Unknown = true
-leavesBoard (Rdreg n) = true
-leavesBoard (Wdreg n) = false
-leavesBoard (Read s) = true
-leavesBoard (Write s) = true
-leavesBoard (Dump s) = true
-leavesBoard (Fill s) = true
-leavesBoard Go = false
 leavesBoard Nop = true
-leavesBoard SyncPc = false
-leavesBoard Rcreg = true
-leavesBoard Wcreg = false
-leavesBoard Rdmreg = false
-leavesBoard (Wdmreg r) = false
+leavesBoard (Load s base) = true
+leavesBoard (Store s base) = true
+leavesBoard (Show (source.General n)) = true
+leavesBoard (Show source.Control) = true
+leavesBoard (Show source.Csr) = false
+leavesBoard (Change target) = false
 
 -- the place after a packet for which no command works
 abbrev pub quietly : Plan → Place → Place

@@ -7,7 +7,8 @@ use native.Mathlib.Omega.{arith}
 use lib.Dec.{leb}
 use borrow.Author.Tests.{eqb-true, leb-true, lt-leb, ne-eqb}
 use Rattle.command.specs.declared.Command.{Command}
-use Rattle.command.specs.declared.Command.the-variants.{Unknown, Rdreg, Wdreg, Read, Write, Dump, Fill, Go, Nop, SyncPc, Rcreg, Wcreg, Rdmreg, Wdmreg}
+use Rattle.command.specs.declared.Command.the-variants.{Unknown, Nop, Load, Store, Show, Change}
+use Rattle.command.specs.declared.Source.the-variants as source
 use Rattle.command.specs.Command.{decoded, decodedWord}
 use Rattle.board.specs.declared.Board.{Board}
 use Rattle.board.specs.declared.Place.{Place}
@@ -24,19 +25,13 @@ use Rattle.port.specs.Quiet.{leavesBoard, brief, briefly}
 
 pub board-left : (c : Command) (b : Board) (address value : ℕ) → leavesBoard c ≡ true → b ≡ boardAfter c b address value
 board-left Unknown b address value e = refl
-board-left (Rdreg n) b address value e = refl
-board-left (Wdreg n) b address value e = cc
-board-left (Read s) b address value e = refl
-board-left (Write s) b address value e = refl
-board-left (Dump s) b address value e = refl
-board-left (Fill s) b address value e = refl
-board-left Go b address value e = cc
 board-left Nop b address value e = refl
-board-left SyncPc b address value e = cc
-board-left Rcreg b address value e = refl
-board-left Wcreg b address value e = cc
-board-left Rdmreg b address value e = cc
-board-left (Wdmreg r) b address value e = cc
+board-left (Load s base) b address value e = refl
+board-left (Store s base) b address value e = refl
+board-left (Show (source.General n)) b address value e = refl
+board-left (Show source.Control) b address value e = refl
+board-left (Show source.Csr) b address value e = cc
+board-left (Change target) b address value e = cc
 
 -- a NOP is legal whatever the chain and whether the processor runs, and works at once
 nop-plan : (halted : Bool) (chain : Chain) (w : ℕ) → planOf Rest halted chain w 0 ≡ Work Nop 0 0

@@ -11,7 +11,9 @@ use borrow.Author.Tests.{le-leb}
 use Rattle.memory.specs.MemoryLaws.{either, AllBelow, set-keeps-below}
 use Rattle.command.specs.declared.DebugRegister.{DebugRegister}
 use Rattle.command.specs.declared.Command.{Command}
-use Rattle.command.specs.declared.Command.the-variants.{Unknown, Rdreg, Wdreg, Read, Write, Dump, Fill, Go, Nop, SyncPc, Rcreg, Wcreg, Rdmreg, Wdmreg}
+use Rattle.command.specs.declared.Command.the-variants.{Unknown, Nop, Load, Store, Show, Change}
+use Rattle.command.specs.declared.Source.the-variants as source
+use Rattle.command.specs.declared.Target.the-variants as target
 use Rattle.command.specs.Command.{operandWords}
 use Rattle.board.specs.declared.Board.{Board}
 use Rattle.board.specs.declared.Debug.{Debug}
@@ -95,21 +97,19 @@ control-write-keeps b n v f h =
 
 pub work-keeps-board : (c : Command) (b : Board) (address value : ℕ) → value < 2 ^ 32 → SoundBoard b → SoundBoard (boardAfter c b address value)
 work-keeps-board Unknown b a v f h = h
-work-keeps-board (Rdreg n) b a v f h = h
-work-keeps-board (Wdreg n) b a v f h =
-    record { setting = h .setting; bstat = h .bstat; general = set-keeps-below (2 ^ 32) (b .registers .general) (n % 16) v (h .general) f; control = h .control; debug = h .debug }
-work-keeps-board (Read s) b a v f h = h
-work-keeps-board (Write s) b a v f h = h
-work-keeps-board (Dump s) b a v f h = h
-work-keeps-board (Fill s) b a v f h = h
-work-keeps-board Go b a v f h = record { setting = h .setting; bstat = h .bstat; general = h .general; control = h .control; debug = h .debug }
 work-keeps-board Nop b a v f h = h
-work-keeps-board SyncPc b a v f h = record { setting = h .setting; bstat = h .bstat; general = h .general; control = h .control; debug = h .debug }
-work-keeps-board Rcreg b a v f h = h
-work-keeps-board Wcreg b a v f h = control-write-keeps b a v f h
-work-keeps-board Rdmreg b a v f h =
+work-keeps-board (Load s base) b a v f h = h
+work-keeps-board (Store s base) b a v f h = h
+work-keeps-board (Show (source.General n)) b a v f h = h
+work-keeps-board (Show source.Control) b a v f h = h
+work-keeps-board (Show source.Csr) b a v f h =
     record { setting = h .setting; bstat = read-in-range (b .status .bstat) (h .bstat); general = h .general; control = h .control; debug = h .debug }
-work-keeps-board (Wdmreg r) b a v f h = debug-write-keeps b r v f h
+work-keeps-board (Change (target.General n)) b a v f h =
+    record { setting = h .setting; bstat = h .bstat; general = set-keeps-below (2 ^ 32) (b .registers .general) (n % 16) v (h .general) f; control = h .control; debug = h .debug }
+work-keeps-board (Change target.Control) b a v f h = control-write-keeps b a v f h
+work-keeps-board (Change (target.Debug r)) b a v f h = debug-write-keeps b r v f h
+work-keeps-board (Change target.Run) b a v f h = record { setting = h .setting; bstat = h .bstat; general = h .general; control = h .control; debug = h .debug }
+work-keeps-board (Change target.Sync) b a v f h = record { setting = h .setting; bstat = h .bstat; general = h .general; control = h .control; debug = h .debug }
 
 -- ---- the packet
 module _ (b : Board) (p : Place) (m : List ℕ) (h : SoundBoard b) (k : SoundPlace (b .w) p) (l : SoundMemory m) where
@@ -147,23 +147,21 @@ module _ (b : Board) (p : Place) (m : List ℕ) (h : SoundBoard b) (k : SoundPla
 work-keeps-w : (c : Command) (b : Board) (address value : ℕ) → boardAfter c b address value .w ≡ b .w
 unfolding withControl withDebugWritten
 work-keeps-w Unknown b a v = refl
-work-keeps-w (Rdreg n) b a v = refl
-work-keeps-w (Wdreg n) b a v = refl
-work-keeps-w (Read s) b a v = refl
-work-keeps-w (Write s) b a v = refl
-work-keeps-w (Dump s) b a v = refl
-work-keeps-w (Fill s) b a v = refl
-work-keeps-w Go b a v = refl
 work-keeps-w Nop b a v = refl
-work-keeps-w SyncPc b a v = refl
-work-keeps-w Rcreg b a v = refl
-work-keeps-w Wcreg b a v = control (controlListed a)
+work-keeps-w (Load s base) b a v = refl
+work-keeps-w (Store s base) b a v = refl
+work-keeps-w (Show (source.General n)) b a v = refl
+work-keeps-w (Show source.Control) b a v = refl
+work-keeps-w (Show source.Csr) b a v = refl
+work-keeps-w (Change (target.General n)) b a v = refl
+work-keeps-w (Change target.Control) b a v = control (controlListed a)
   where
     control : (t : Bool) → cond t (withRegisters b (record { general = b .registers .general; control = set (b .registers .control) (controlPlace a) v })) b .w ≡ b .w
     control true = refl
     control false = refl
-work-keeps-w Rdmreg b a v = refl
-work-keeps-w (Wdmreg r) b a v = refl
+work-keeps-w (Change (target.Debug r)) b a v = refl
+work-keeps-w (Change target.Run) b a v = refl
+work-keeps-w (Change target.Sync) b a v = refl
 
 pub packet-keeps-w : (b : Board) (p : Place) (word : ℕ) → boardNext b p word .w ≡ b .w
 unfolding boardNext

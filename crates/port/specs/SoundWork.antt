@@ -14,7 +14,9 @@ use Rattle.memory.specs.declared.Fetch.the-variants.{Value, BusError}
 use Rattle.memory.specs.Memory.{bytes, aligned, present, valueAt, fetched, stored}
 use Rattle.memory.specs.MemoryLaws.{either, store-keeps-bytes, store-keeps-length, value-within, limit}
 use Rattle.command.specs.declared.Command.{Command}
-use Rattle.command.specs.declared.Command.the-variants.{Unknown, Rdreg, Wdreg, Read, Write, Dump, Fill, Go, Nop, SyncPc, Rcreg, Wcreg, Rdmreg, Wdmreg}
+use Rattle.command.specs.declared.Command.the-variants.{Unknown, Nop, Load, Store, Show, Change}
+use Rattle.command.specs.declared.Source.the-variants as source
+use Rattle.command.specs.declared.Target.the-variants as target
 use Rattle.board.specs.declared.Board.{Board}
 use Rattle.board.specs.declared.Place.{Place}
 use Rattle.registers.specs.Csr.{flag, csrValue}
@@ -23,7 +25,7 @@ use Rattle.work.specs.declared.Access.{Access}
 use Rattle.work.specs.declared.Access.the-variants.{NoAccess, Fetched, Stored, Missing}
 use Rattle.work.specs.declared.Ending.{Ending}
 use Rattle.work.specs.declared.Ending.the-variants.{Complete, Failed, OneWord, TwoWords}
-use Rattle.work.specs.Access.{past, fetchedAccess, fetching, storing, accessOf, memoryAfter, pointerAfter}
+use Rattle.work.specs.Access.{past, fetchedAccess, fetching, storing, startOf, accessOf, memoryAfter, pointerAfter}
 use Rattle.work.specs.Work.{accessEnding, controlEnding, controlWriteEnding, endingOf, firstReply, phaseAfter, placeAfter}
 use Rattle.port.specs.Sound.{SoundBoard, PhaseWithin, SoundPlace, SoundMemory}
 
@@ -50,38 +52,22 @@ storing-within m s a h = either AccessWithin (present m s a) (Stored (past s a))
 
 access-within : (c : Command) (m : List ℕ) (pointer address : ℕ) → SoundMemory m → AccessWithin (accessOf c m pointer address)
 access-within Unknown m p a h = tt
-access-within (Rdreg n) m p a h = tt
-access-within (Wdreg n) m p a h = tt
-access-within (Read s) m p a h = fetching-within m s a h
-access-within (Write s) m p a h = storing-within m s a h
-access-within (Dump s) m p a h = fetching-within m s p h
-access-within (Fill s) m p a h = storing-within m s p h
-access-within Go m p a h = tt
 access-within Nop m p a h = tt
-access-within SyncPc m p a h = tt
-access-within Rcreg m p a h = tt
-access-within Wcreg m p a h = tt
-access-within Rdmreg m p a h = tt
-access-within (Wdmreg r) m p a h = tt
+access-within (Load s base) m p a h = fetching-within m s (startOf base p a) h
+access-within (Store s base) m p a h = storing-within m s (startOf base p a) h
+access-within (Show source) m p a h = tt
+access-within (Change target) m p a h = tt
 
 stored-sound : (m : List ℕ) (s : Size) (a v : ℕ) → SoundMemory m → SoundMemory (stored m s a v)
 stored-sound m s a v h = record { limit = rw (store-keeps-length m s a v) (h .limit); bytes = store-keeps-bytes m s a v (h .bytes) }
 
 pub work-keeps-memory : (c : Command) (m : List ℕ) (pointer address value : ℕ) → SoundMemory m → SoundMemory (memoryAfter c m pointer address value)
 work-keeps-memory Unknown m p a v h = h
-work-keeps-memory (Rdreg n) m p a v h = h
-work-keeps-memory (Wdreg n) m p a v h = h
-work-keeps-memory (Read s) m p a v h = h
-work-keeps-memory (Write s) m p a v h = stored-sound m s a v h
-work-keeps-memory (Dump s) m p a v h = h
-work-keeps-memory (Fill s) m p a v h = stored-sound m s p v h
-work-keeps-memory Go m p a v h = h
 work-keeps-memory Nop m p a v h = h
-work-keeps-memory SyncPc m p a v h = h
-work-keeps-memory Rcreg m p a v h = h
-work-keeps-memory Wcreg m p a v h = h
-work-keeps-memory Rdmreg m p a v h = h
-work-keeps-memory (Wdmreg r) m p a v h = h
+work-keeps-memory (Load s base) m p a v h = h
+work-keeps-memory (Store s base) m p a v h = stored-sound m s (startOf base p a) v h
+work-keeps-memory (Show source) m p a v h = h
+work-keeps-memory (Change target) m p a v h = h
 
 -- ---- what the work ends in
 abbrev EndingWithin : Ending → Type 0
@@ -118,19 +104,17 @@ control-write-within BusError = tt
 
 ending-within : (c : Command) (b : Board) (address : ℕ) (x : Access) → SoundBoard b → AccessWithin x → EndingWithin (endingOf c b address x)
 ending-within Unknown b a x h k = tt
-ending-within (Rdreg n) b a x h k = h .general (n % 16)
-ending-within (Wdreg n) b a x h k = tt
-ending-within (Read s) b a x h k = access-ending-within x k
-ending-within (Write s) b a x h k = access-ending-within x k
-ending-within (Dump s) b a x h k = access-ending-within x k
-ending-within (Fill s) b a x h k = access-ending-within x k
-ending-within Go b a x h k = tt
 ending-within Nop b a x h k = tt
-ending-within SyncPc b a x h k = tt
-ending-within Rcreg b a x h k = control-ending-within b a h
-ending-within Wcreg b a x h k = control-write-within (controlFetched b a)
-ending-within Rdmreg b a x h k = csr-within b
-ending-within (Wdmreg r) b a x h k = tt
+ending-within (Load s base) b a x h k = access-ending-within x k
+ending-within (Store s base) b a x h k = access-ending-within x k
+ending-within (Show (source.General n)) b a x h k = h .general (n % 16)
+ending-within (Show source.Control) b a x h k = control-ending-within b a h
+ending-within (Show source.Csr) b a x h k = csr-within b
+ending-within (Change (target.General n)) b a x h k = tt
+ending-within (Change target.Control) b a x h k = control-write-within (controlFetched b a)
+ending-within (Change (target.Debug r)) b a x h k = tt
+ending-within (Change target.Run) b a x h k = tt
+ending-within (Change target.Sync) b a x h k = tt
 
 next-within : (e : Ending) → EndingWithin e → firstReply e ≤ 0x1FFFF
 next-within Complete h = omega arith

@@ -14,7 +14,9 @@ use board::Board;
 use board::Chain;
 use board::Phase;
 use board::Place;
+use command::Base;
 use command::Command;
+use command::Source;
 use grounds::Ground;
 use grounds::Verdict;
 use plan::Plan;
@@ -53,19 +55,17 @@ fn chain_during(command: Command, chain: Chain) -> Chain
 {
     match command {
         Command::Unknown => Chain::Off,
-        Command::Rdreg(_) => Chain::Off,
-        Command::Wdreg(_) => Chain::Off,
-        Command::Read(_) => Chain::Off,
-        Command::Write(_) => Chain::Off,
-        Command::Dump(_) => chain,
-        Command::Fill(_) => chain,
-        Command::Go => Chain::Off,
         Command::Nop => chain,
-        Command::SyncPc => Chain::Off,
-        Command::Rcreg => Chain::Off,
-        Command::Wcreg => Chain::Off,
-        Command::Rdmreg => Chain::Off,
-        Command::Wdmreg(_) => Chain::Off,
+        Command::Load(_, base) => match base {
+            Base::Address => Chain::Off,
+            Base::Pointer => chain,
+        },
+        Command::Store(_, base) => match base {
+            Base::Address => Chain::Off,
+            Base::Pointer => chain,
+        },
+        Command::Show(_) => Chain::Off,
+        Command::Change(_) => Chain::Off,
     }
 }
 
@@ -133,19 +133,15 @@ fn leaves_board(command: Command) -> bool
 {
     match command {
         Command::Unknown => true,
-        Command::Rdreg(_) => true,
-        Command::Wdreg(_) => false,
-        Command::Read(_) => true,
-        Command::Write(_) => true,
-        Command::Dump(_) => true,
-        Command::Fill(_) => true,
-        Command::Go => false,
         Command::Nop => true,
-        Command::SyncPc => false,
-        Command::Rcreg => true,
-        Command::Wcreg => false,
-        Command::Rdmreg => false,
-        Command::Wdmreg(_) => false,
+        Command::Load(_, _) => true,
+        Command::Store(_, _) => true,
+        Command::Show(source) => match source {
+            Source::General(_) => true,
+            Source::Control => true,
+            Source::Csr => false,
+        },
+        Command::Change(_) => false,
     }
 }
 

@@ -6,7 +6,8 @@ use mathlib.Core.Bool.{Bool, cond}
 use lib.Dec.{eqb}
 use native.Mathlib.Omega.{arith}
 use Rattle.command.specs.declared.Command.{Command}
-use Rattle.command.specs.declared.Command.the-variants.{Unknown, Rdreg, Wdreg, Read, Write, Dump, Fill, Go, Nop, SyncPc, Rcreg, Wcreg, Rdmreg, Wdmreg}
+use Rattle.command.specs.declared.Command.the-variants.{Unknown, Nop, Load, Store, Show, Change}
+use Rattle.command.specs.declared.Source.the-variants as source
 use Rattle.command.specs.Command.{operandWords, waits}
 use Rattle.board.specs.declared.Operands.{Operands}
 use Rattle.board.specs.declared.Phase.{Phase}
@@ -22,36 +23,24 @@ use Rattle.promises.specs.NopLaws.{nop-at-rest}
 -- a command whose work does not read the status
 abbrev pub Calm : Command → Type 0
 Calm Unknown = Unit {0}
-Calm (Rdreg n) = Unit {0}
-Calm (Wdreg n) = Unit {0}
-Calm (Read s) = Unit {0}
-Calm (Write s) = Unit {0}
-Calm (Dump s) = Unit {0}
-Calm (Fill s) = Unit {0}
-Calm Go = Unit {0}
 Calm Nop = Unit {0}
-Calm SyncPc = Unit {0}
-Calm Rcreg = Unit {0}
-Calm Wcreg = Unit {0}
-Calm Rdmreg = ⊥
-Calm (Wdmreg r) = Unit {0}
+Calm (Load s base) = Unit {0}
+Calm (Store s base) = Unit {0}
+Calm (Show (source.General n)) = Unit {0}
+Calm (Show source.Control) = Unit {0}
+Calm (Show source.Csr) = ⊥
+Calm (Change target) = Unit {0}
 
 -- one with operands or waits
 calm : (c : Command) → 1 ≤ operandWords c + cond (waits c) 1 0 → Calm c
 calm Unknown h = tt
-calm (Rdreg n) h = tt
-calm (Wdreg n) h = tt
-calm (Read s) h = tt
-calm (Write s) h = tt
-calm (Dump s) h = tt
-calm (Fill s) h = tt
-calm Go h = tt
 calm Nop h = tt
-calm SyncPc h = tt
-calm Rcreg h = tt
-calm Wcreg h = tt
-calm Rdmreg h = absurd (omega arith)
-calm (Wdmreg r) h = tt
+calm (Load s base) h = tt
+calm (Store s base) h = tt
+calm (Show (source.General n)) h = tt
+calm (Show source.Control) h = tt
+calm (Show source.Csr) h = absurd (omega arith)
+calm (Change target) h = tt
 
 abbrev pub PlanCalm : Plan → Type 0
 PlanCalm (Hold phase) = Unit {0}

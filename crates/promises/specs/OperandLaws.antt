@@ -6,7 +6,10 @@ use mathlib.Core.List.{List, [], _∷_, _++_}
 use lib.ListN.{length}
 use native.Mathlib.Omega.{arith}
 use Rattle.command.specs.declared.Command.{Command}
-use Rattle.command.specs.declared.Command.the-variants.{Unknown, Rdreg, Wdreg, Read, Write, Dump, Fill, Go, Nop, SyncPc, Rcreg, Wcreg, Rdmreg, Wdmreg}
+use Rattle.command.specs.declared.Command.the-variants.{Unknown, Nop, Load, Store, Show, Change}
+use Rattle.command.specs.declared.Base.the-variants.{Address, Pointer}
+use Rattle.command.specs.declared.Source.the-variants as source
+use Rattle.command.specs.declared.Target.the-variants as target
 use Rattle.memory.specs.declared.Size.the-variants.{Byte, Word as Half, Long}
 use Rattle.command.specs.Command.{operandWords}
 use Rattle.board.specs.declared.Operands.{Operands}
@@ -69,18 +72,18 @@ pub ending-sent : (c : Command) (b : Board) (m : List ℕ) (pointer : ℕ) (ds :
     → endingOf c b (addressIn (operandWords c) (held noOperands ds)) (accessOf c m pointer (addressIn (operandWords c) (held noOperands ds)))
     ≡ endingOf c b (addressSent ds) (accessOf c m pointer (addressSent ds))
 ending-sent Unknown b m pointer ds h = refl
-ending-sent (Rdreg n) b m pointer ds h = refl
-ending-sent (Wdreg n) b m pointer ds h = refl
-ending-sent (Read s) b m pointer ds h = ap (endingAt (Read s) b m pointer) (two-sent ds h)
-ending-sent (Write Byte) b m pointer ds h = ap (endingAt (Write Byte) b m pointer) (three-sent ds h)
-ending-sent (Write Half) b m pointer ds h = ap (endingAt (Write Half) b m pointer) (three-sent ds h)
-ending-sent (Write Long) b m pointer ds h = ap (endingAt (Write Long) b m pointer) (four-sent ds h)
-ending-sent (Dump s) b m pointer ds h = refl
-ending-sent (Fill s) b m pointer ds h = refl
-ending-sent Go b m pointer ds h = refl
 ending-sent Nop b m pointer ds h = refl
-ending-sent SyncPc b m pointer ds h = refl
-ending-sent Rcreg b m pointer ds h = ap (endingAt Rcreg b m pointer) (two-sent ds h)
-ending-sent Wcreg b m pointer ds h = ap (endingAt Wcreg b m pointer) (four-sent ds h)
-ending-sent Rdmreg b m pointer ds h = refl
-ending-sent (Wdmreg r) b m pointer ds h = refl
+ending-sent (Load s Address) b m pointer ds h = ap (endingAt (Load s Address) b m pointer) (two-sent ds h)
+ending-sent (Load s Pointer) b m pointer ds h = refl
+ending-sent (Store Byte Address) b m pointer ds h = ap (endingAt (Store Byte Address) b m pointer) (three-sent ds h)
+ending-sent (Store Half Address) b m pointer ds h = ap (endingAt (Store Half Address) b m pointer) (three-sent ds h)
+ending-sent (Store Long Address) b m pointer ds h = ap (endingAt (Store Long Address) b m pointer) (four-sent ds h)
+ending-sent (Store s Pointer) b m pointer ds h = refl
+ending-sent (Show (source.General n)) b m pointer ds h = refl
+ending-sent (Show source.Control) b m pointer ds h = ap (endingAt (Show source.Control) b m pointer) (two-sent ds h)
+ending-sent (Show source.Csr) b m pointer ds h = refl
+ending-sent (Change (target.General n)) b m pointer ds h = refl
+ending-sent (Change target.Control) b m pointer ds h = ap (endingAt (Change target.Control) b m pointer) (four-sent ds h)
+ending-sent (Change (target.Debug r)) b m pointer ds h = refl
+ending-sent (Change target.Run) b m pointer ds h = refl
+ending-sent (Change target.Sync) b m pointer ds h = refl

@@ -5,7 +5,9 @@ use mathlib.Core.Bool.{Bool, true, false, cond}
 use mathlib.Core.List.{List}
 use lib.ListN.{set}
 use Rattle.command.specs.declared.Command.{Command}
-use Rattle.command.specs.declared.Command.the-variants.{Unknown, Rdreg, Wdreg, Read, Write, Dump, Fill, Go, Nop, SyncPc, Rcreg, Wcreg, Rdmreg, Wdmreg}
+use Rattle.command.specs.declared.Command.the-variants.{Unknown, Nop, Load, Store, Show, Change}
+use Rattle.command.specs.declared.Source.the-variants as source
+use Rattle.command.specs.declared.Target.the-variants as target
 use Rattle.board.specs.declared.Board.{Board}
 use Rattle.board.specs.declared.Status.{Status}
 use Rattle.board.specs.declared.Place.{Place}
@@ -21,19 +23,17 @@ module _ (b : Board) (s : Status) where
   calm-work : (c : Command) (address value : ℕ) (p : Place) (m : List ℕ) → Calm c → placeBy (Work c address value) (withStatus b s) p m ≡ placeBy (Work c address value) b p m
   unfolding controlFetched
   calm-work Unknown address value p m h = refl
-  calm-work (Rdreg n) address value p m h = refl
-  calm-work (Wdreg n) address value p m h = refl
-  calm-work (Read z) address value p m h = refl
-  calm-work (Write z) address value p m h = refl
-  calm-work (Dump z) address value p m h = refl
-  calm-work (Fill z) address value p m h = refl
-  calm-work Go address value p m h = refl
   calm-work Nop address value p m h = refl
-  calm-work SyncPc address value p m h = refl
-  calm-work Rcreg address value p m h = refl
-  calm-work Wcreg address value p m h = refl
-  calm-work Rdmreg address value p m h = absurd h
-  calm-work (Wdmreg r) address value p m h = refl
+  calm-work (Load z base) address value p m h = refl
+  calm-work (Store z base) address value p m h = refl
+  calm-work (Show (source.General n)) address value p m h = refl
+  calm-work (Show source.Control) address value p m h = refl
+  calm-work (Show source.Csr) address value p m h = absurd h
+  calm-work (Change (target.General n)) address value p m h = refl
+  calm-work (Change target.Control) address value p m h = refl
+  calm-work (Change (target.Debug r)) address value p m h = refl
+  calm-work (Change target.Run) address value p m h = refl
+  calm-work (Change target.Sync) address value p m h = refl
 
   calm-place : (plan : Plan) (p : Place) (m : List ℕ) → PlanCalm plan → placeBy plan (withStatus b s) p m ≡ placeBy plan b p m
   calm-place (Hold phase) p m h = refl
@@ -59,19 +59,17 @@ module _ (b : Board) (s : Status) where
   same-work : (c : Command) (address value : ℕ) → SameButStatus (boardAfter c (withStatus b s) address value) (boardAfter c b address value)
   unfolding withDebugWritten
   same-work Unknown address value = same
-  same-work (Rdreg n) address value = same
-  same-work (Wdreg n) address value = record { setting = refl; registers = refl; debug = refl }
-  same-work (Read z) address value = same
-  same-work (Write z) address value = same
-  same-work (Dump z) address value = same
-  same-work (Fill z) address value = same
-  same-work Go address value = record { setting = refl; registers = refl; debug = refl }
   same-work Nop address value = same
-  same-work SyncPc address value = record { setting = refl; registers = refl; debug = refl }
-  same-work Rcreg address value = same
-  same-work Wcreg address value = same-control address value
-  same-work Rdmreg address value = record { setting = refl; registers = refl; debug = refl }
-  same-work (Wdmreg r) address value = record { setting = refl; registers = refl; debug = refl }
+  same-work (Load z base) address value = same
+  same-work (Store z base) address value = same
+  same-work (Show (source.General n)) address value = same
+  same-work (Show source.Control) address value = same
+  same-work (Show source.Csr) address value = record { setting = refl; registers = refl; debug = refl }
+  same-work (Change (target.General n)) address value = record { setting = refl; registers = refl; debug = refl }
+  same-work (Change target.Control) address value = same-control address value
+  same-work (Change (target.Debug r)) address value = record { setting = refl; registers = refl; debug = refl }
+  same-work (Change target.Run) address value = record { setting = refl; registers = refl; debug = refl }
+  same-work (Change target.Sync) address value = record { setting = refl; registers = refl; debug = refl }
 
   same-board : (plan : Plan) → SameButStatus (boardBy plan (withStatus b s)) (boardBy plan b)
   same-board (Hold phase) = same

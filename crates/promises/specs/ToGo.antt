@@ -12,7 +12,10 @@ use Rattle.memory.specs.declared.Fetch.{Fetch}
 use Rattle.memory.specs.declared.Fetch.the-variants.{Value, BusError}
 use Rattle.memory.specs.Memory.{present, fetched}
 use Rattle.command.specs.declared.Command.{Command}
-use Rattle.command.specs.declared.Command.the-variants.{Unknown, Rdreg, Wdreg, Read, Write, Dump, Fill, Go, Nop, SyncPc, Rcreg, Wcreg, Rdmreg, Wdmreg}
+use Rattle.command.specs.declared.Command.the-variants.{Unknown, Nop, Load, Store, Show, Change}
+use Rattle.command.specs.declared.Base.the-variants.{Address, Pointer}
+use Rattle.command.specs.declared.Source.the-variants as source
+use Rattle.command.specs.declared.Target.the-variants as target
 use Rattle.command.specs.Command.{sizeWords, operandWords, resultWords, waits}
 use Rattle.board.specs.declared.Board.{Board}
 use Rattle.board.specs.declared.Place.{Place}
@@ -21,7 +24,7 @@ use Rattle.board.specs.declared.Phase.{Phase}
 use Rattle.board.specs.declared.Phase.the-variants.{Rest, Due, Waiting, Low}
 use Rattle.registers.specs.Registers.{controlFetched}
 use Rattle.work.specs.declared.Access.the-variants.{Stored, Missing}
-use Rattle.work.specs.Access.{past, fetchedAccess, accessOf}
+use Rattle.work.specs.Access.{past, fetchedAccess, startOf, accessOf}
 use Rattle.work.specs.Work.{accessEnding, controlEnding, controlWriteEnding, endingOf, phaseAfter}
 use Rattle.plan.specs.declared.Plan.{Plan}
 use Rattle.plan.specs.declared.Plan.the-variants.{Hold, Reject, Release, Work}
@@ -43,27 +46,27 @@ toGo w (Low low) = 1
 -- WRITE long and WCREG have four operands and no result words; READ long and RCREG two of each
 four-at-most : (c : Command) → operandWords c + uppers c ≤ 4
 four-at-most Unknown = omega arith
-four-at-most (Rdreg n) = omega arith
-four-at-most (Wdreg n) = omega arith
-four-at-most (Read Byte) = omega arith
-four-at-most (Read Word) = omega arith
-four-at-most (Read Long) = omega arith
-four-at-most (Write Byte) = omega arith
-four-at-most (Write Word) = omega arith
-four-at-most (Write Long) = omega arith
-four-at-most (Dump Byte) = omega arith
-four-at-most (Dump Word) = omega arith
-four-at-most (Dump Long) = omega arith
-four-at-most (Fill Byte) = omega arith
-four-at-most (Fill Word) = omega arith
-four-at-most (Fill Long) = omega arith
-four-at-most Go = omega arith
 four-at-most Nop = omega arith
-four-at-most SyncPc = omega arith
-four-at-most Rcreg = omega arith
-four-at-most Wcreg = omega arith
-four-at-most Rdmreg = omega arith
-four-at-most (Wdmreg r) = omega arith
+four-at-most (Load Byte Address) = omega arith
+four-at-most (Load Word Address) = omega arith
+four-at-most (Load Long Address) = omega arith
+four-at-most (Load Byte Pointer) = omega arith
+four-at-most (Load Word Pointer) = omega arith
+four-at-most (Load Long Pointer) = omega arith
+four-at-most (Store Byte Address) = omega arith
+four-at-most (Store Word Address) = omega arith
+four-at-most (Store Long Address) = omega arith
+four-at-most (Store Byte Pointer) = omega arith
+four-at-most (Store Word Pointer) = omega arith
+four-at-most (Store Long Pointer) = omega arith
+four-at-most (Show (source.General n)) = omega arith
+four-at-most (Show source.Control) = omega arith
+four-at-most (Show source.Csr) = omega arith
+four-at-most (Change (target.General n)) = omega arith
+four-at-most (Change target.Control) = omega arith
+four-at-most (Change (target.Debug r)) = omega arith
+four-at-most (Change target.Run) = omega arith
+four-at-most (Change target.Sync) = omega arith
 
 waits-at-most : (w : ℕ) (c : Command) → waitsOf w c ≤ w
 waits-at-most w c = either (λ (n : ℕ). n ≤ w) (waits c) w 0 (λ e. le-refl w) (λ e. zero-le)
@@ -102,19 +105,17 @@ control-written w BusError = zero-le
 work-to-go : (w : ℕ) (c : Command) (b : Board) (m : List ℕ) (pointer address : ℕ)
     → toGo w (phaseAfter (endingOf c b address (accessOf c m pointer address))) ≤ uppers c
 work-to-go w Unknown b m pointer address = zero-le
-work-to-go w (Rdreg n) b m pointer address = le-refl _
-work-to-go w (Wdreg n) b m pointer address = zero-le
-work-to-go w (Read s) b m pointer address = accessed w s (fetched m s address) (past s address)
-work-to-go w (Write s) b m pointer address = stores w (present m s address) (past s address)
-work-to-go w (Dump s) b m pointer address = accessed w s (fetched m s pointer) (past s pointer)
-work-to-go w (Fill s) b m pointer address = stores w (present m s pointer) (past s pointer)
-work-to-go w Go b m pointer address = zero-le
 work-to-go w Nop b m pointer address = zero-le
-work-to-go w SyncPc b m pointer address = zero-le
-work-to-go w Rcreg b m pointer address = control-read w (controlFetched b address)
-work-to-go w Wcreg b m pointer address = control-written w (controlFetched b address)
-work-to-go w Rdmreg b m pointer address = le-refl _
-work-to-go w (Wdmreg r) b m pointer address = zero-le
+work-to-go w (Load s base) b m pointer address = accessed w s (fetched m s (startOf base pointer address)) (past s (startOf base pointer address))
+work-to-go w (Store s base) b m pointer address = stores w (present m s (startOf base pointer address)) (past s (startOf base pointer address))
+work-to-go w (Show (source.General n)) b m pointer address = le-refl _
+work-to-go w (Show source.Control) b m pointer address = control-read w (controlFetched b address)
+work-to-go w (Show source.Csr) b m pointer address = le-refl _
+work-to-go w (Change (target.General n)) b m pointer address = zero-le
+work-to-go w (Change target.Control) b m pointer address = control-written w (controlFetched b address)
+work-to-go w (Change (target.Debug r)) b m pointer address = zero-le
+work-to-go w (Change target.Run) b m pointer address = zero-le
+work-to-go w (Change target.Sync) b m pointer address = zero-le
 
 -- a plan that leaves at most n to go
 abbrev pub PlanLeaves : ℕ → ℕ → Plan → Type 0

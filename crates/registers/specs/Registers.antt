@@ -9,7 +9,9 @@ use Rattle.memory.specs.declared.Fetch.the-variants.{Value, BusError}
 use Rattle.command.specs.declared.DebugRegister.{DebugRegister}
 use Rattle.command.specs.declared.DebugRegister.the-variants.{Csr, Baar, Aatr, Tdr, Pbr, Pbmr, Abhr, Ablr, Dbr, Dbmr}
 use Rattle.command.specs.declared.Command.{Command}
-use Rattle.command.specs.declared.Command.the-variants.{Unknown, Rdreg, Wdreg, Read, Write, Dump, Fill, Go, Nop, SyncPc, Rcreg, Wcreg, Rdmreg, Wdmreg}
+use Rattle.command.specs.declared.Command.the-variants.{Unknown, Nop, Load, Store, Show, Change}
+use Rattle.command.specs.declared.Source.the-variants as source
+use Rattle.command.specs.declared.Target.the-variants as target
 use Rattle.board.specs.declared.Board.{Board}
 use Rattle.board.specs.declared.Status.{Status}
 use Rattle.board.specs.declared.Registers.{Registers}
@@ -89,19 +91,17 @@ unfoldable pub withDebugWritten : Board → DebugRegister → ℕ → Board
 withDebugWritten b r v =
     record { w = b .w; status = cond (isTdr r) (armed (b .status) v) (b .status); registers = b .registers; debug = debugWritten r v (b .debug) }
 
--- the board after a command's work; memory commands leave it alone
+-- the board after a command's work; memory commands leave it alone. "Reading clears FOF, TRG, HALT, BKPT, and BSTAT if 2 or 6"
 abbrev pub boardAfter : Command → Board → ℕ → ℕ → Board
 boardAfter Unknown b address value = b
-boardAfter (Rdreg n) b address value = b
-boardAfter (Wdreg n) b address value = withGeneral b n value
-boardAfter (Read s) b address value = b
-boardAfter (Write s) b address value = b
-boardAfter (Dump s) b address value = b
-boardAfter (Fill s) b address value = b
-boardAfter Go b address value = withStatus b (afterGo (b .status))
 boardAfter Nop b address value = b
-boardAfter SyncPc b address value = withStatus b (afterSyncPc (b .status))
-boardAfter Rcreg b address value = b
-boardAfter Wcreg b address value = withControl b address value
-boardAfter Rdmreg b address value = withStatus b (afterCsrRead (b .status))
-boardAfter (Wdmreg r) b address value = withDebugWritten b r value
+boardAfter (Load s base) b address value = b
+boardAfter (Store s base) b address value = b
+boardAfter (Show (source.General n)) b address value = b
+boardAfter (Show source.Control) b address value = b
+boardAfter (Show source.Csr) b address value = withStatus b (afterCsrRead (b .status))
+boardAfter (Change (target.General n)) b address value = withGeneral b n value
+boardAfter (Change target.Control) b address value = withControl b address value
+boardAfter (Change (target.Debug r)) b address value = withDebugWritten b r value
+boardAfter (Change target.Run) b address value = withStatus b (afterGo (b .status))
+boardAfter (Change target.Sync) b address value = withStatus b (afterSyncPc (b .status))

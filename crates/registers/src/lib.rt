@@ -9,6 +9,8 @@ use board::Debug;
 use board::Status;
 use command::Command;
 use command::DebugRegister;
+use command::Source;
+use command::Target;
 use memory::Fetch;
 
 fn flag_of(x: bool) -> u32
@@ -238,30 +240,32 @@ pub fn board_after(command: Command, board: Board, address: u32, value: u32) -> 
     let mut b = board;
     match command {
         Command::Unknown => b,
-        Command::Rdreg(_) => b,
-        Command::Wdreg(n) => set_general(b, n, value),
-        Command::Read(_) => b,
-        Command::Write(_) => b,
-        Command::Dump(_) => b,
-        Command::Fill(_) => b,
-        Command::Go => {
-            let s = after_go(status);
-            b.status = s;
-            b
-        }
         Command::Nop => b,
-        Command::SyncPc => {
-            let s = after_sync_pc(status);
-            b.status = s;
-            b
-        }
-        Command::Rcreg => b,
-        Command::Wcreg => set_control(b, address, value),
-        Command::Rdmreg => {
-            let s = after_csr_read(status);
-            b.status = s;
-            b
-        }
-        Command::Wdmreg(register) => set_debug(b, register, value),
+        Command::Load(_, _) => b,
+        Command::Store(_, _) => b,
+        Command::Show(source) => match source {
+            Source::General(_) => b,
+            Source::Control => b,
+            Source::Csr => {
+                let s = after_csr_read(status);
+                b.status = s;
+                b
+            }
+        },
+        Command::Change(target) => match target {
+            Target::General(n) => set_general(b, n as u32, value),
+            Target::Control => set_control(b, address, value),
+            Target::Debug(register) => set_debug(b, register, value),
+            Target::Run => {
+                let s = after_go(status);
+                b.status = s;
+                b
+            }
+            Target::Sync => {
+                let s = after_sync_pc(status);
+                b.status = s;
+                b
+            }
+        },
     }
 }

@@ -7,8 +7,8 @@ use mathlib.Core.List.{List, [], _∷_}
 use lib.Dec.{eqb}
 use lib.ListN.{length}
 use Rattle.command.specs.declared.Command.{Command}
-use Rattle.command.specs.declared.Command.the-variants.{Unknown, Rdmreg as RdmregCommand}
-use Rattle.command.specs.Command.{Row, lookedUp, sizeWords, operandWords, resultWords}
+use Rattle.command.specs.declared.Command.the-variants.{Unknown}
+use Rattle.command.specs.Command.{Row, lookedUp, rdmreg, sizeWords, operandWords, resultWords}
 use Rattle.requests.specs.declared.Request.{Request}
 use Rattle.requests.specs.declared.Request.the-variants.{Rdreg, Wdreg, Read, Write, Dump, Fill, Go, Nop, SyncPc, Rcreg, Wcreg, Rdmreg, Wdmreg}
 use Rattle.requests.specs.declared.ResultKind.{ResultKind}
@@ -33,10 +33,10 @@ found-has P n (r ∷ rs) each known = by-test (eqb n (r .word)) (found-has P n r
     by-test false later known = later known
 
 -- RDMREG with n = 0, the one that is listed
-found-rdmreg : (P : Command → Type 0) (n : ℕ) → P RdmregCommand → (cond (eqb n 0) RdmregCommand Unknown ≡ Unknown → ⊥) → P (cond (eqb n 0) RdmregCommand Unknown)
+found-rdmreg : (P : Command → Type 0) (n : ℕ) → P rdmreg → (cond (eqb n 0) rdmreg Unknown ≡ Unknown → ⊥) → P (cond (eqb n 0) rdmreg Unknown)
 found-rdmreg P n p known = by-test (eqb n 0) known
   where
-    by-test : (t : Bool) → (cond t RdmregCommand Unknown ≡ Unknown → ⊥) → P (cond t RdmregCommand Unknown)
+    by-test : (t : Bool) → (cond t rdmreg Unknown ≡ Unknown → ⊥) → P (cond t rdmreg Unknown)
     by-test true known = p
     by-test false known = absurd (known refl)
 

@@ -8,7 +8,8 @@ use lib.Dec.{eqb, ltb}
 use lib.ListN.{take, drop}
 use borrow.Author.Tests.{eq-eqb, ne-eqb, eqb-true, eqb-false, leb-true, ltb-true}
 use Rattle.memory.specs.declared.Size.the-variants.{Byte, Word, Long}
-use Rattle.command.specs.declared.Command.the-variants as command
+use Rattle.command.specs.declared.Command.the-variants.{Unknown}
+use Rattle.command.specs.Command as command
 use Rattle.command.specs.Command.{Row, row, table, lookedUp, decodedWord, decoded}
 use Rattle.requests.specs.declared.Request.{Request}
 use Rattle.requests.specs.declared.Request.the-variants.{Rdreg, Wdreg, Read, Write, Dump, Fill, Go, Nop, SyncPc, Rcreg, Wcreg, Rdmreg, Wdmreg}
@@ -58,12 +59,12 @@ wdmreg-decoded n small =
     rw (ne-eqb ((0x2C80 + n) / 16) 0x218 (omega arith), ne-eqb ((0x2C80 + n) / 16) 0x208 (omega arith))
     (passed-over 0x2C80 n (take 18 table) (moved 0x2C80 debugRows) small refl ∙ found-moved 0x2C80 n debugRows)
 
-rdmreg-decoded : (n : ℕ) → n ≤ 31 → decoded (0x2D80 + n) ≡ cond (eqb n 0) command.Rdmreg command.Unknown
+rdmreg-decoded : (n : ℕ) → n ≤ 31 → decoded (0x2D80 + n) ≡ cond (eqb n 0) command.rdmreg Unknown
 unfolding decoded decodedWord
 rdmreg-decoded n small =
     rw (ne-eqb ((0x2D80 + n) / 16) 0x218 (omega arith), ne-eqb ((0x2D80 + n) / 16) 0x208 (omega arith))
     (passed-over 0x2D80 n (take 17 table) (drop 17 table) small refl
-    ∙ ap₂ (λ t c. cond t command.Rdmreg c) (eqb-moved 0x2D80 n 0) (passed-over 0x2D80 n (drop 18 table) [] small refl))
+    ∙ ap₂ (λ t c. cond t command.rdmreg c) (eqb-moved 0x2D80 n 0) (passed-over 0x2D80 n (drop 18 table) [] small refl))
 
 -- the word of a request is the command meant
 pub decoded-as-meant : (request : Request) → inRange request ≡ true → decoded (commandWord request) ≡ commandOf request
@@ -71,11 +72,11 @@ unfolding decoded decodedWord
 decoded-as-meant (Rdreg register) h =
     let small = leb-true register 15 h in
     let same : (0x2180 + register) % 16 ≡ register = omega arith in
-    rw (eq-eqb ((0x2180 + register) / 16) 0x218 (omega arith)) (ap command.Rdreg same)
+    rw (eq-eqb ((0x2180 + register) / 16) 0x218 (omega arith)) (ap command.rdreg same)
 decoded-as-meant (Wdreg register value) h =
     let small = leb-true register 15 (and-right (dataInRange Long value) _ h) in
     let same : (0x2080 + register) % 16 ≡ register = omega arith in
-    rw (ne-eqb ((0x2080 + register) / 16) 0x218 (omega arith), eq-eqb ((0x2080 + register) / 16) 0x208 (omega arith)) (ap command.Wdreg same)
+    rw (ne-eqb ((0x2080 + register) / 16) 0x218 (omega arith), eq-eqb ((0x2080 + register) / 16) 0x208 (omega arith)) (ap command.wdreg same)
 decoded-as-meant (Read Byte address) h = refl
 decoded-as-meant (Read Word address) h = refl
 decoded-as-meant (Read Long address) h = refl

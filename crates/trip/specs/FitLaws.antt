@@ -7,7 +7,9 @@ use mathlib.Core.List.{List}
 use lib.ListN.{set}
 use Rattle.memory.specs.MemoryLaws.{AllBelow}
 use Rattle.command.specs.declared.Command.{Command}
-use Rattle.command.specs.declared.Command.the-variants.{Unknown, Rdreg, Wdreg, Read, Write, Dump, Fill, Go, Nop, SyncPc, Rcreg, Wcreg, Rdmreg, Wdmreg}
+use Rattle.command.specs.declared.Command.the-variants.{Unknown, Nop, Load, Store, Show, Change}
+use Rattle.command.specs.declared.Source.the-variants as source
+use Rattle.command.specs.declared.Target.the-variants as target
 use Rattle.board.specs.declared.Board.{Board}
 use Rattle.board.specs.declared.Place.{Place}
 use Rattle.board.specs.Ranges.{bstatInRange, inRange}
@@ -91,36 +93,32 @@ control-alike false b n v = plain-alike b
 work-alike : (c : Command) (b : Board) (a v : ℕ) → Alike (boardAfter c (plain b) a v) (boardAfter c b a v)
 unfolding withControl withDebugWritten debugLoaded
 work-alike Unknown b a v = plain-alike b
-work-alike (Rdreg n) b a v = plain-alike b
-work-alike (Wdreg n) b a v = plain-alike (boardAfter (Wdreg n) b a v)
-work-alike (Read s) b a v = plain-alike b
-work-alike (Write s) b a v = plain-alike b
-work-alike (Dump s) b a v = plain-alike b
-work-alike (Fill s) b a v = plain-alike b
-work-alike Go b a v = plain-alike (boardAfter Go b a v)
 work-alike Nop b a v = plain-alike b
-work-alike SyncPc b a v = plain-alike (boardAfter SyncPc b a v)
-work-alike Rcreg b a v = plain-alike b
-work-alike Wcreg b a v = control-alike (controlListed a) b a v
-work-alike Rdmreg b a v = plain-alike (boardAfter Rdmreg b a v)
-work-alike (Wdmreg r) b a v = record { w = refl; status = refl; registers = refl; csr = refl }
+work-alike (Load s base) b a v = plain-alike b
+work-alike (Store s base) b a v = plain-alike b
+work-alike (Show (source.General n)) b a v = plain-alike b
+work-alike (Show source.Control) b a v = plain-alike b
+work-alike (Show source.Csr) b a v = plain-alike (boardAfter (Show source.Csr) b a v)
+work-alike (Change (target.General n)) b a v = plain-alike (boardAfter (Change (target.General n)) b a v)
+work-alike (Change target.Control) b a v = control-alike (controlListed a) b a v
+work-alike (Change (target.Debug r)) b a v = record { w = refl; status = refl; registers = refl; csr = refl }
+work-alike (Change target.Run) b a v = plain-alike (boardAfter (Change target.Run) b a v)
+work-alike (Change target.Sync) b a v = plain-alike (boardAfter (Change target.Sync) b a v)
 
 ending-alike : (c : Command) (b : Board) (a : ℕ) (x : Access) → endingOf c (plain b) a x ≡ endingOf c b a x
 unfolding csrValue controlFetched
 ending-alike Unknown b a x = refl
-ending-alike (Rdreg n) b a x = refl
-ending-alike (Wdreg n) b a x = refl
-ending-alike (Read s) b a x = refl
-ending-alike (Write s) b a x = refl
-ending-alike (Dump s) b a x = refl
-ending-alike (Fill s) b a x = refl
-ending-alike Go b a x = refl
 ending-alike Nop b a x = refl
-ending-alike SyncPc b a x = refl
-ending-alike Rcreg b a x = refl
-ending-alike Wcreg b a x = refl
-ending-alike Rdmreg b a x = refl
-ending-alike (Wdmreg r) b a x = refl
+ending-alike (Load s base) b a x = refl
+ending-alike (Store s base) b a x = refl
+ending-alike (Show (source.General n)) b a x = refl
+ending-alike (Show source.Control) b a x = refl
+ending-alike (Show source.Csr) b a x = refl
+ending-alike (Change (target.General n)) b a x = refl
+ending-alike (Change target.Control) b a x = refl
+ending-alike (Change (target.Debug r)) b a x = refl
+ending-alike (Change target.Run) b a x = refl
+ending-alike (Change target.Sync) b a x = refl
 
 board-alike : (plan : Plan) (b : Board) → Alike (boardBy plan (plain b)) (boardBy plan b)
 board-alike (Hold phase) b = plain-alike b

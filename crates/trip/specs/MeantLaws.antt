@@ -7,7 +7,8 @@ use mathlib.Core.Bool.{Bool, true, false, not, _||_}
 use borrow.Author.Tests.{leb-true}
 use Rattle.memory.specs.declared.Size.the-variants.{Byte, Word, Long}
 use Rattle.command.specs.declared.Command.{Command}
-use Rattle.command.specs.declared.Command.the-variants as command
+use Rattle.command.specs.declared.Command.the-variants.{Unknown}
+use Rattle.command.specs.declared.Base.the-variants.{Address, Pointer}
 use Rattle.command.specs.Command.{decoded, operandWords}
 use Rattle.board.specs.declared.Chain.{Chain}
 use Rattle.plan.specs.Plan.{carriesC, legal, noOperands, addressIn, valueIn}
@@ -23,17 +24,17 @@ use Rattle.requests.specs.CountLaws.{operand-count}
 use Rattle.trip.specs.Meaning.{Scene, meaning}
 use Rattle.trip.specs.Exchange.{legalThere}
 use Rattle.trip.specs.ClosingLaws.{taken}
-use Rattle.trip.specs.WorkLaws.{Meant, read-meant, dump-meant, write-meant, fill-meant, read-control-meant, write-control-meant, csr-fits, rdmreg-known, debug-meant}
+use Rattle.trip.specs.WorkLaws.{Meant, load-meant, store-meant, read-control-meant, write-control-meant, csr-fits, rdmreg-known, debug-meant}
 
 -- a legal word is a command's
-no-command : (c : Command) (halted : Bool) (chain : Chain) → legal c halted chain ≡ true → c ≡ command.Unknown → ⊥
+no-command : (c : Command) (halted : Bool) (chain : Chain) → legal c halted chain ≡ true → c ≡ Unknown → ⊥
 no-command c halted chain l e =
-    let unknown : legal command.Unknown halted chain ≡ true = rw e at l in
+    let unknown : legal Unknown halted chain ≡ true = rw e at l in
     let no : false ≡ true = and-right (halted || true) false unknown in
     let z : _≡_ {A = ℕ} 0 1 = cc in
     omega arith
 
-pub legal-is-known : (request : Request) (s : Scene) → inRange request ≡ true → legalThere request s ≡ true → commandOf request ≡ command.Unknown → ⊥
+pub legal-is-known : (request : Request) (s : Scene) → inRange request ≡ true → legalThere request s ≡ true → commandOf request ≡ Unknown → ⊥
 legal-is-known request s h l e =
     no-command (decoded (commandWord request)) (s .board .status .halted) (s .chain)
     (and-right (not (carriesC (commandWord request))) (legal (decoded (commandWord request)) (s .board .status .halted) (s .chain)) l)
@@ -46,7 +47,7 @@ addressSent request = addressIn (operandWords (commandOf request)) (taken noOper
 abbrev pub valueSent : Request → ℕ
 valueSent request = valueIn (operandWords (commandOf request)) (taken noOperands (operands request))
 
-pub work-is-meant : (request : Request) (s : Scene) → inRange request ≡ true → (commandOf request ≡ command.Unknown → ⊥)
+pub work-is-meant : (request : Request) (s : Scene) → inRange request ≡ true → (commandOf request ≡ Unknown → ⊥)
     → Meant (commandOf request) (addressSent request) (valueSent request) (kindOf request) s (meaning request s)
 work-is-meant (Rdreg n) s h known =
     let small = leb-true n 15 h in
@@ -56,14 +57,14 @@ work-is-meant (Wdreg n v) s h known =
     let small = leb-true n 15 (and-right (dataInRange Long v) _ h) in
     let same : n % 16 ≡ n = omega arith in
     record { outcome = refl; leaves = rw (same, div-add-mod' v 65536); fits = λ f. tt }
-work-is-meant (Read size a) s h known = rw (div-add-mod' a 65536) (read-meant size s a a)
-work-is-meant (Write Byte a v) s h known = rw (div-add-mod' a 65536) (write-meant Byte s a v)
-work-is-meant (Write Word a v) s h known = rw (div-add-mod' a 65536) (write-meant Word s a v)
-work-is-meant (Write Long a v) s h known = rw (div-add-mod' a 65536, div-add-mod' v 65536) (write-meant Long s a v)
-work-is-meant (Dump size) s h known = dump-meant size s 0 0
-work-is-meant (Fill Byte v) s h known = fill-meant Byte s (0 * 65536 + v) v
-work-is-meant (Fill Word v) s h known = fill-meant Word s (0 * 65536 + v) v
-work-is-meant (Fill Long v) s h known = rw (div-add-mod' v 65536) (fill-meant Long s v v)
+work-is-meant (Read size a) s h known = rw (div-add-mod' a 65536) (load-meant size s Address a a)
+work-is-meant (Write Byte a v) s h known = rw (div-add-mod' a 65536) (store-meant Byte s Address a v)
+work-is-meant (Write Word a v) s h known = rw (div-add-mod' a 65536) (store-meant Word s Address a v)
+work-is-meant (Write Long a v) s h known = rw (div-add-mod' a 65536, div-add-mod' v 65536) (store-meant Long s Address a v)
+work-is-meant (Dump size) s h known = load-meant size s Pointer 0 0
+work-is-meant (Fill Byte v) s h known = store-meant Byte s Pointer (0 * 65536 + v) v
+work-is-meant (Fill Word v) s h known = store-meant Word s Pointer (0 * 65536 + v) v
+work-is-meant (Fill Long v) s h known = rw (div-add-mod' v 65536) (store-meant Long s Pointer v v)
 work-is-meant Go s h known = record { outcome = refl; leaves = refl; fits = λ f. tt }
 work-is-meant Nop s h known = record { outcome = refl; leaves = refl; fits = λ f. tt }
 work-is-meant SyncPc s h known = record { outcome = refl; leaves = refl; fits = λ f. tt }

@@ -5,7 +5,10 @@ use mathlib.Core.Path.{_≡_, refl}
 use mathlib.Core.Bool.{Bool, true, false, cond}
 use mathlib.Core.List.{List}
 use Rattle.command.specs.declared.Command.{Command}
-use Rattle.command.specs.declared.Command.the-variants.{Unknown, Rdreg, Wdreg, Read, Write, Dump, Fill, Go, Nop, SyncPc, Rcreg, Wcreg, Rdmreg, Wdmreg}
+use Rattle.command.specs.declared.Command.the-variants.{Unknown, Nop, Load, Store, Show, Change}
+use Rattle.command.specs.declared.Base.the-variants.{Address, Pointer}
+use Rattle.command.specs.declared.Source.the-variants as source
+use Rattle.command.specs.declared.Target.the-variants as target
 use Rattle.command.specs.Command.{operandWords, waits}
 use Rattle.board.specs.declared.Board.{Board}
 use Rattle.board.specs.declared.Chain.{Chain}
@@ -81,19 +84,19 @@ left-falls {s} f more =
 -- ---- the budget
 operand-bound : (c : Command) → operandWords c ≤ 4
 operand-bound Unknown = omega arith
-operand-bound (Rdreg n) = omega arith
-operand-bound (Wdreg n) = omega arith
-operand-bound (Read s) = omega arith
-operand-bound (Write s) = omega (arith, size-words-bound s)
-operand-bound (Dump s) = omega arith
-operand-bound (Fill s) = omega (arith, size-words-bound s)
-operand-bound Go = omega arith
 operand-bound Nop = omega arith
-operand-bound SyncPc = omega arith
-operand-bound Rcreg = omega arith
-operand-bound Wcreg = omega arith
-operand-bound Rdmreg = omega arith
-operand-bound (Wdmreg r) = omega arith
+operand-bound (Load s Address) = omega arith
+operand-bound (Load s Pointer) = omega arith
+operand-bound (Store s Address) = omega (arith, size-words-bound s)
+operand-bound (Store s Pointer) = omega (arith, size-words-bound s)
+operand-bound (Show (source.General n)) = omega arith
+operand-bound (Show source.Control) = omega arith
+operand-bound (Show source.Csr) = omega arith
+operand-bound (Change (target.General n)) = omega arith
+operand-bound (Change target.Control) = omega arith
+operand-bound (Change (target.Debug r)) = omega arith
+operand-bound (Change target.Run) = omega arith
+operand-bound (Change target.Sync) = omega arith
 
 pub waits-bound : (w : ℕ) (c : Command) → waitsOf w c ≤ w
 waits-bound w c = by-command (waits c)

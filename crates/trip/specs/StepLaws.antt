@@ -5,7 +5,8 @@ use mathlib.Core.Path.{_≡_, refl, ap}
 use mathlib.Core.Bool.{Bool, true, false}
 use borrow.Author.Tests.{lt-leb, ne-eqb}
 use Rattle.command.specs.declared.Command.{Command}
-use Rattle.command.specs.declared.Command.the-variants.{Unknown, Rdreg, Wdreg, Read, Write, Dump, Fill, Go, Nop, SyncPc, Rcreg, Wcreg, Rdmreg, Wdmreg}
+use Rattle.command.specs.declared.Command.the-variants.{Unknown, Nop, Load, Store, Show, Change}
+use Rattle.command.specs.declared.Base.the-variants.{Address, Pointer}
 use Rattle.command.specs.Command.{decoded, decodedWord, operandWords}
 use Rattle.board.specs.declared.Operands.{Operands}
 use Rattle.board.specs.declared.Chain.{Chain}
@@ -39,35 +40,21 @@ step-by-plan s word = refl
 
 during-during : (c : Command) (chain : Chain) → chainDuring c (chainDuring c chain) ≡ chainDuring c chain
 during-during Unknown chain = refl
-during-during (Rdreg n) chain = refl
-during-during (Wdreg n) chain = refl
-during-during (Read s) chain = refl
-during-during (Write s) chain = refl
-during-during (Dump s) chain = refl
-during-during (Fill s) chain = refl
-during-during Go chain = refl
 during-during Nop chain = refl
-during-during SyncPc chain = refl
-during-during Rcreg chain = refl
-during-during Wcreg chain = refl
-during-during Rdmreg chain = refl
-during-during (Wdmreg r) chain = refl
+during-during (Load s Address) chain = refl
+during-during (Load s Pointer) chain = refl
+during-during (Store s Address) chain = refl
+during-during (Store s Pointer) chain = refl
+during-during (Show source) chain = refl
+during-during (Change target) chain = refl
 
 by-during : (c : Command) (chain : Chain) → chainBy c (chainDuring c chain) ≡ chainBy c chain
 by-during Unknown chain = refl
-by-during (Rdreg n) chain = refl
-by-during (Wdreg n) chain = refl
-by-during (Read s) chain = refl
-by-during (Write s) chain = refl
-by-during (Dump s) chain = refl
-by-during (Fill s) chain = refl
-by-during Go chain = refl
 by-during Nop chain = refl
-by-during SyncPc chain = refl
-by-during Rcreg chain = refl
-by-during Wcreg chain = refl
-by-during Rdmreg chain = refl
-by-during (Wdmreg r) chain = refl
+by-during (Load s base) chain = refl
+by-during (Store s base) chain = refl
+by-during (Show source) chain = refl
+by-during (Change target) chain = refl
 
 after-during : (e : Ending) (c : Command) (chain : Chain) → chainAfter e c (chainDuring c chain) ≡ chainAfter e c chain
 after-during Complete c chain = by-during c chain

@@ -12,13 +12,15 @@ use Rattle.memory.specs.declared.Size.the-variants.{Byte, Word, Long}
 use Rattle.memory.specs.Memory.{aligned, present, valueAt, fetched, putAt, stored}
 use Rattle.memory.specs.MemoryLaws.{AllBelow, limit, value-within}
 use Rattle.command.specs.declared.Command.{Command}
-use Rattle.command.specs.declared.Command.the-variants as command
+use Rattle.command.specs.declared.Command.the-variants.{Unknown, Load, Store}
+use Rattle.command.specs.declared.Base.{Base}
+use Rattle.command.specs.Command as command
 use Rattle.command.specs.Command.{Row, lookedUp}
 use Rattle.board.specs.declared.Board.{Board}
 use Rattle.board.specs.declared.Chain.{Chain}
 use Rattle.work.specs.declared.Access.the-variants.{Fetched, Missing}
 use Rattle.work.specs.declared.Ending.{Ending}
-use Rattle.work.specs.Access.{past, fetching, accessOf, memoryAfter, pointerAfter}
+use Rattle.work.specs.Access.{past, fetching, startOf, accessOf, memoryAfter, pointerAfter}
 use Rattle.work.specs.Work.{accessEnding, endingOf, chainBy, chainAfter}
 use Rattle.registers.specs.Csr.{flag, csrValue}
 use Rattle.registers.specs.Registers.{controlPlace, controlListed, controlFetched, withControl, withDebugWritten, boardAfter}
@@ -92,54 +94,37 @@ fetched-fits Word v p h = omega arith
 fetched-fits Long v p h = omega arith
 
 module _ (size : Size) (s : Scene) where
-  pub read-meant : (a v : ℕ) → Meant (command.Read size) a v (OfSize size) s (reads size a s)
-  read-meant a v =
-      let x = valueAt (s .memory) size (aligned size a) in
-      by-test (present (s .memory) size a)
+  pub load-meant : (base : Base) (a v : ℕ) → Meant (Load size base) a v (OfSize size) s (reads size (startOf base (s .pointer) a) s)
+  load-meant base a v =
+      let at = startOf base (s .pointer) a in
+      let x = valueAt (s .memory) size (aligned size at) in
+      by-test (present (s .memory) size at)
       (λ h.
-      let there = fetched-there (s .memory) size a h in
+      let there = fetched-there (s .memory) size at h in
       record {
-        outcome = rw (h, there) (fetched-outcome size x (past size a));
-        leaves = rw (h, there) (ap (λ chain. record { board = s .board; chain = chain; pointer = past size a; memory = s .memory }) (fetched-chain size x (past size a) (command.Read size) (s .chain)));
-        fits = λ f. rw there (fetched-fits size x (past size a) (value-within (s .memory) size (aligned size a) (f .bytes)));
+        outcome = rw (h, there) (fetched-outcome size x (past size at));
+        leaves = rw (h, there) (ap (λ chain. record { board = s .board; chain = chain; pointer = past size at; memory = s .memory }) (fetched-chain size x (past size at) (Load size base) (s .chain)));
+        fits = λ f. rw there (fetched-fits size x (past size at) (value-within (s .memory) size (aligned size at) (f .bytes)));
       })
-      (λ h. let missing = fetched-missing (s .memory) size a h in record { outcome = rw (h, missing); leaves = rw (h, missing); fits = λ f. rw missing tt })
+      (λ h. let missing = fetched-missing (s .memory) size at h in record { outcome = rw (h, missing); leaves = rw (h, missing); fits = λ f. rw missing tt })
 
-  pub dump-meant : (a v : ℕ) → Meant (command.Dump size) a v (OfSize size) s (reads size (s .pointer) s)
-  dump-meant a v =
-      let x = valueAt (s .memory) size (aligned size (s .pointer)) in
-      by-test (present (s .memory) size (s .pointer))
-      (λ h.
-      let there = fetched-there (s .memory) size (s .pointer) h in
-      record {
-        outcome = rw (h, there) (fetched-outcome size x (past size (s .pointer)));
-        leaves = rw (h, there) (ap (λ chain. record { board = s .board; chain = chain; pointer = past size (s .pointer); memory = s .memory }) (fetched-chain size x (past size (s .pointer)) (command.Dump size) (s .chain)));
-        fits = λ f. rw there (fetched-fits size x (past size (s .pointer)) (value-within (s .memory) size (aligned size (s .pointer)) (f .bytes)));
-      })
-      (λ h. let missing = fetched-missing (s .memory) size (s .pointer) h in record { outcome = rw (h, missing); leaves = rw (h, missing); fits = λ f. rw missing tt })
-
-  pub write-meant : (a v : ℕ) → Meant (command.Write size) a v NoResult s (writes size a v s)
-  write-meant a v =
-      by-test (present (s .memory) size a)
-      (λ h. record { outcome = rw h; leaves = rw (h, stored-there (s .memory) size a v h); fits = λ f. rw h tt })
-      (λ h. record { outcome = rw h; leaves = rw (h, stored-missing (s .memory) size a v h); fits = λ f. rw h tt })
-
-  pub fill-meant : (a v : ℕ) → Meant (command.Fill size) a v NoResult s (writes size (s .pointer) v s)
-  fill-meant a v =
-      by-test (present (s .memory) size (s .pointer))
-      (λ h. record { outcome = rw h; leaves = rw (h, stored-there (s .memory) size (s .pointer) v h); fits = λ f. rw h tt })
-      (λ h. record { outcome = rw h; leaves = rw (h, stored-missing (s .memory) size (s .pointer) v h); fits = λ f. rw h tt })
+  pub store-meant : (base : Base) (a v : ℕ) → Meant (Store size base) a v NoResult s (writes size (startOf base (s .pointer) a) v s)
+  store-meant base a v =
+      let at = startOf base (s .pointer) a in
+      by-test (present (s .memory) size at)
+      (λ h. record { outcome = rw h; leaves = rw (h, stored-there (s .memory) size at v h); fits = λ f. rw h tt })
+      (λ h. record { outcome = rw h; leaves = rw (h, stored-missing (s .memory) size at v h); fits = λ f. rw h tt })
 
 -- ---- control registers
 module _ (s : Scene) where
-  pub read-control-meant : (rc v : ℕ) → Meant command.Rcreg rc v (OfSize Long) s (readsControl rc s)
+  pub read-control-meant : (rc v : ℕ) → Meant command.rcreg rc v (OfSize Long) s (readsControl rc s)
   unfolding controlFetched
   read-control-meant rc v =
       by-test (controlListed rc)
       (λ h. record { outcome = rw h; leaves = rw h; fits = λ f. rw h (omega (arith, f .control (controlPlace rc))) })
       (λ h. record { outcome = rw h; leaves = rw h; fits = λ f. rw h tt })
 
-  pub write-control-meant : (rc v : ℕ) → Meant command.Wcreg rc v NoResult s (writesControl rc v s)
+  pub write-control-meant : (rc v : ℕ) → Meant command.wcreg rc v NoResult s (writesControl rc v s)
   unfolding controlFetched withControl
   write-control-meant rc v =
       by-test (controlListed rc) (λ h. record { outcome = rw h; leaves = rw h; fits = λ f. rw h tt }) (λ h. record { outcome = rw h; leaves = rw h; fits = λ f. rw h tt })
@@ -155,10 +140,10 @@ csr-fits b =
     omega (arith, flag-within (b .status .fof), flag-within (b .status .trg), flag-within (b .status .halt), flag-within (b .status .bkpt), and-le-r (b .debug .csr) 0x0007FF70)
 
 -- RDMREG with the one n that is listed
-pub rdmreg-known : (P : Command → Type 0) (n : ℕ) → P command.Rdmreg → (cond (eqb n 0) command.Rdmreg command.Unknown ≡ command.Unknown → ⊥) → P (cond (eqb n 0) command.Rdmreg command.Unknown)
+pub rdmreg-known : (P : Command → Type 0) (n : ℕ) → P command.rdmreg → (cond (eqb n 0) command.rdmreg Unknown ≡ Unknown → ⊥) → P (cond (eqb n 0) command.rdmreg Unknown)
 rdmreg-known P n p known = by-number (eqb n 0) known
   where
-    by-number : (t : Bool) → (cond t command.Rdmreg command.Unknown ≡ command.Unknown → ⊥) → P (cond t command.Rdmreg command.Unknown)
+    by-number : (t : Bool) → (cond t command.rdmreg Unknown ≡ Unknown → ⊥) → P (cond t command.rdmreg Unknown)
     by-number true known = p
     by-number false known = absurd (known refl)
 
@@ -167,17 +152,17 @@ abbrev EachRow : (ℕ → Command → Type 0) → List Row → Type 0
 EachRow P [] = Unit {0}
 EachRow P (r ∷ rs) = P (r .word) (r .command) × EachRow P rs
 
-found-there : (P : ℕ → Command → Type 0) (n : ℕ) (rs : List Row) → EachRow P rs → (lookedUp n rs ≡ command.Unknown → ⊥) → P n (lookedUp n rs)
+found-there : (P : ℕ → Command → Type 0) (n : ℕ) (rs : List Row) → EachRow P rs → (lookedUp n rs ≡ Unknown → ⊥) → P n (lookedUp n rs)
 found-there P n [] each known = absurd (known refl)
 found-there P n (r ∷ rs) each known = by-number (eqb n (r .word)) refl (found-there P n rs (each .1)) known
   where
-    by-number : (t : Bool) → eqb n (r .word) ≡ t → ((lookedUp n rs ≡ command.Unknown → ⊥) → P n (lookedUp n rs))
-        → (cond t (r .command) (lookedUp n rs) ≡ command.Unknown → ⊥)
+    by-number : (t : Bool) → eqb n (r .word) ≡ t → ((lookedUp n rs ≡ Unknown → ⊥) → P n (lookedUp n rs))
+        → (cond t (r .command) (lookedUp n rs) ≡ Unknown → ⊥)
         → P n (cond t (r .command) (lookedUp n rs))
     by-number true e later known = rw (eqb-true n (r .word) e) (each .0)
     by-number false e later known = later known
 
-pub debug-meant : (n v a : ℕ) (s : Scene) → (lookedUp n debugRows ≡ command.Unknown → ⊥) → Meant (lookedUp n debugRows) a v NoResult s (meaning (Wdmreg n v) s)
+pub debug-meant : (n v a : ℕ) (s : Scene) → (lookedUp n debugRows ≡ Unknown → ⊥) → Meant (lookedUp n debugRows) a v NoResult s (meaning (Wdmreg n v) s)
 unfolding withDebugWritten
 debug-meant n v a s known =
     found-there (λ k c. Meant c a v NoResult s (meaning (Wdmreg k v) s)) n debugRows (record { outcome = refl; leaves = refl; fits = λ f. tt }, (record { outcome = refl; leaves = refl; fits = λ f. tt }, (record { outcome = refl; leaves = refl; fits = λ f. tt }, (record { outcome = refl; leaves = refl; fits = λ f. tt }, (record { outcome = refl; leaves = refl; fits = λ f. tt }, (record { outcome = refl; leaves = refl; fits = λ f. tt }, (record { outcome = refl; leaves = refl; fits = λ f. tt }, (record { outcome = refl; leaves = refl; fits = λ f. tt }, (record { outcome = refl; leaves = refl; fits = λ f. tt }, (record { outcome = refl; leaves = refl; fits = λ f. tt }, tt)))))))))) known

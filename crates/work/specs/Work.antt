@@ -5,7 +5,9 @@ use Rattle.memory.specs.declared.Size.the-variants.{Byte, Word, Long}
 use Rattle.memory.specs.declared.Fetch.{Fetch}
 use Rattle.memory.specs.declared.Fetch.the-variants.{Value, BusError}
 use Rattle.command.specs.declared.Command.{Command}
-use Rattle.command.specs.declared.Command.the-variants.{Unknown, Rdreg, Wdreg, Read, Write, Dump, Fill, Go, Nop, SyncPc, Rcreg, Wcreg, Rdmreg, Wdmreg}
+use Rattle.command.specs.declared.Command.the-variants.{Unknown, Nop, Load, Store, Show, Change}
+use Rattle.command.specs.declared.Source.the-variants as source
+use Rattle.command.specs.declared.Target.the-variants as target
 use Rattle.board.specs.declared.Board.{Board}
 use Rattle.board.specs.declared.Phase.{Phase}
 use Rattle.board.specs.declared.Phase.the-variants.{Rest, Low}
@@ -39,19 +41,17 @@ controlWriteEnding BusError = Failed
 -- the column "Result words", or a bus error
 abbrev pub endingOf : Command → Board → ℕ → Access → Ending
 endingOf Unknown b address access = Complete
-endingOf (Rdreg n) b address access = TwoWords (getD (b .registers .general) (n % 16) 0)
-endingOf (Wdreg n) b address access = Complete
-endingOf (Read s) b address access = accessEnding access
-endingOf (Write s) b address access = accessEnding access
-endingOf (Dump s) b address access = accessEnding access
-endingOf (Fill s) b address access = accessEnding access
-endingOf Go b address access = Complete
 endingOf Nop b address access = Complete
-endingOf SyncPc b address access = Complete
-endingOf Rcreg b address access = controlEnding (controlFetched b address)
-endingOf Wcreg b address access = controlWriteEnding (controlFetched b address)
-endingOf Rdmreg b address access = TwoWords (csrValue b)
-endingOf (Wdmreg r) b address access = Complete
+endingOf (Load s base) b address access = accessEnding access
+endingOf (Store s base) b address access = accessEnding access
+endingOf (Show (source.General n)) b address access = TwoWords (getD (b .registers .general) (n % 16) 0)
+endingOf (Show source.Control) b address access = controlEnding (controlFetched b address)
+endingOf (Show source.Csr) b address access = TwoWords (csrValue b)
+endingOf (Change (target.General n)) b address access = Complete
+endingOf (Change target.Control) b address access = controlWriteEnding (controlFetched b address)
+endingOf (Change (target.Debug r)) b address access = Complete
+endingOf (Change target.Run) b address access = Complete
+endingOf (Change target.Sync) b address access = Complete
 
 -- "Of two result words the upper comes first"; "S=0 with data, or 0x0FFFF complete; .. 0x10001 bus error"
 abbrev pub firstReply : Ending → ℕ
@@ -70,19 +70,11 @@ phaseAfter (TwoWords v) = Low (v % 65536)
 -- "DUMP is legal only after READ or DUMP, FILL only after WRITE or FILL; NOPs may stand between."
 abbrev pub chainBy : Command → Chain → Chain
 chainBy Unknown chain = Off
-chainBy (Rdreg n) chain = Off
-chainBy (Wdreg n) chain = Off
-chainBy (Read s) chain = Dumping
-chainBy (Write s) chain = Filling
-chainBy (Dump s) chain = Dumping
-chainBy (Fill s) chain = Filling
-chainBy Go chain = Off
 chainBy Nop chain = chain
-chainBy SyncPc chain = Off
-chainBy Rcreg chain = Off
-chainBy Wcreg chain = Off
-chainBy Rdmreg chain = Off
-chainBy (Wdmreg r) chain = Off
+chainBy (Load s base) chain = Dumping
+chainBy (Store s base) chain = Filling
+chainBy (Show source) chain = Off
+chainBy (Change target) chain = Off
 
 -- "Any other .. command word, a bus error .. ends the chain"
 abbrev pub chainAfter : Ending → Command → Chain → Chain

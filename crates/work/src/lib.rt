@@ -1,13 +1,16 @@
 // What a command does once its last word is in and its waits are over (01, "Packets").
 ghost use mathlib.Core.Path.{_≡_};
-ghost use Rattle.work.specs.Access.{past, fetching, storing, accessOf, memoryAfter, pointerAfter};
+ghost use Rattle.work.specs.Access.{past, fetching, storing, startOf, accessOf, memoryAfter, pointerAfter};
 ghost use Rattle.work.specs.Work.{accessEnding, controlEnding, controlWriteEnding, endingOf, firstReply, phaseAfter, chainBy, chainAfter, placeAfter};
 ghost use Rattle.memory.specs.Memory.{stored};
 use board::Board;
 use board::Chain;
 use board::Phase;
 use board::Place;
+use command::Base;
 use command::Command;
+use command::Source;
+use command::Target;
 use memory::Fetch;
 use memory::Size;
 
@@ -57,6 +60,15 @@ fn store_access(memory: &mut [u8], size: Size, address: u32, value: u32) -> Acce
     Access::Missing
 }
 
+fn start(base: Base, pointer: u32, address: u32) -> u32
+    ensures { λ r. ⌜ r ≡ startOf base pointer address ⌝ }
+{
+    match base {
+        Base::Address => address,
+        Base::Pointer => pointer,
+    }
+}
+
 pub fn make_access(
     memory: &mut [u8],
     command: Command,
@@ -67,20 +79,14 @@ pub fn make_access(
     ensures { λ r. ⌜ (r ≡ accessOf command (now (memory .entry)) pointer address) × (now (memory .exit) ≡ memoryAfter command (now (memory .entry)) pointer address value) ⌝ }
 {
     match command {
-        Command::Read(size) => fetch_access(memory, size, address),
-        Command::Write(size) => store_access(memory, size, address, value),
-        Command::Dump(size) => fetch_access(memory, size, pointer),
-        Command::Fill(size) => store_access(memory, size, pointer, value),
         Command::Unknown => Access::NoAccess,
-        Command::Rdreg(_) => Access::NoAccess,
-        Command::Wdreg(_) => Access::NoAccess,
-        Command::Go => Access::NoAccess,
         Command::Nop => Access::NoAccess,
-        Command::SyncPc => Access::NoAccess,
-        Command::Rcreg => Access::NoAccess,
-        Command::Wcreg => Access::NoAccess,
-        Command::Rdmreg => Access::NoAccess,
-        Command::Wdmreg(_) => Access::NoAccess,
+        Command::Load(size, base) => fetch_access(memory, size, start(base, pointer, address)),
+        Command::Store(size, base) => {
+            store_access(memory, size, start(base, pointer, address), value)
+        }
+        Command::Show(_) => Access::NoAccess,
+        Command::Change(_) => Access::NoAccess,
     }
 }
 
@@ -122,19 +128,21 @@ pub fn find_ending(command: Command, board: Board, address: u32, access: Access)
 {
     match command {
         Command::Unknown => Ending::Complete,
-        Command::Rdreg(n) => Ending::TwoWords(registers::general_of(board, n)),
-        Command::Wdreg(_) => Ending::Complete,
-        Command::Read(_) => end_access(access),
-        Command::Write(_) => end_access(access),
-        Command::Dump(_) => end_access(access),
-        Command::Fill(_) => end_access(access),
-        Command::Go => Ending::Complete,
         Command::Nop => Ending::Complete,
-        Command::SyncPc => Ending::Complete,
-        Command::Rcreg => end_control(registers::fetch_control(board, address)),
-        Command::Wcreg => end_control_write(registers::fetch_control(board, address)),
-        Command::Rdmreg => Ending::TwoWords(registers::csr_of(board)),
-        Command::Wdmreg(_) => Ending::Complete,
+        Command::Load(_, _) => end_access(access),
+        Command::Store(_, _) => end_access(access),
+        Command::Show(source) => match source {
+            Source::General(n) => Ending::TwoWords(registers::general_of(board, n as u32)),
+            Source::Control => end_control(registers::fetch_control(board, address)),
+            Source::Csr => Ending::TwoWords(registers::csr_of(board)),
+        },
+        Command::Change(target) => match target {
+            Target::General(_) => Ending::Complete,
+            Target::Control => end_control_write(registers::fetch_control(board, address)),
+            Target::Debug(_) => Ending::Complete,
+            Target::Run => Ending::Complete,
+            Target::Sync => Ending::Complete,
+        },
     }
 }
 
@@ -165,19 +173,11 @@ fn chain_by(command: Command, chain: Chain) -> Chain
 {
     match command {
         Command::Unknown => Chain::Off,
-        Command::Rdreg(_) => Chain::Off,
-        Command::Wdreg(_) => Chain::Off,
-        Command::Read(_) => Chain::Dumping,
-        Command::Write(_) => Chain::Filling,
-        Command::Dump(_) => Chain::Dumping,
-        Command::Fill(_) => Chain::Filling,
-        Command::Go => Chain::Off,
         Command::Nop => chain,
-        Command::SyncPc => Chain::Off,
-        Command::Rcreg => Chain::Off,
-        Command::Wcreg => Chain::Off,
-        Command::Rdmreg => Chain::Off,
-        Command::Wdmreg(_) => Chain::Off,
+        Command::Load(_, _) => Chain::Dumping,
+        Command::Store(_, _) => Chain::Filling,
+        Command::Show(_) => Chain::Off,
+        Command::Change(_) => Chain::Off,
     }
 }
 

@@ -5,12 +5,6 @@ use Rattle.work.proofs.find_ending.Tie as tie
 enum-told : tie.Need-enum-told
 enum-told c = search needs
 
-enum-known-command : tie.Need-enum-known-command
-enum-known-command c = search needs
-
-general-of-requires : tie.Need-general-of-requires
-general-of-requires c κs = search needs
-
 enum-told-2 : tie.Need-enum-told-2
 enum-told-2 c = search needs
 
@@ -26,29 +20,20 @@ enum-told-4 c = search needs
 end-access-requires-2 : tie.Need-end-access-requires-2
 end-access-requires-2 c κs = search needs
 
+enum-known-command : tie.Need-enum-known-command
+enum-known-command c = search needs
+
+enum-known-source : tie.Need-enum-known-source
+enum-known-source c = search needs
+
+cast-general-of : tie.Need-cast-general-of
+cast-general-of c = search needs
+
+general-of-requires : tie.Need-general-of-requires
+general-of-requires c κs = search needs
+
 enum-told-5 : tie.Need-enum-told-5
 enum-told-5 c = search needs
-
-end-access-requires-3 : tie.Need-end-access-requires-3
-end-access-requires-3 c κs = search needs
-
-enum-told-6 : tie.Need-enum-told-6
-enum-told-6 c = search needs
-
-end-access-requires-4 : tie.Need-end-access-requires-4
-end-access-requires-4 c κs = search needs
-
-enum-told-7 : tie.Need-enum-told-7
-enum-told-7 c = search needs
-
-enum-told-8 : tie.Need-enum-told-8
-enum-told-8 c = search needs
-
-enum-told-9 : tie.Need-enum-told-9
-enum-told-9 c = search needs
-
-enum-told-10 : tie.Need-enum-told-10
-enum-told-10 c = search needs
 
 fetch-control-requires : tie.Need-fetch-control-requires
 fetch-control-requires c κs = search needs
@@ -56,8 +41,20 @@ fetch-control-requires c κs = search needs
 end-control-requires : tie.Need-end-control-requires
 end-control-requires c κs = search needs
 
-enum-told-11 : tie.Need-enum-told-11
-enum-told-11 c = search needs
+enum-told-6 : tie.Need-enum-told-6
+enum-told-6 c = search needs
+
+csr-of-requires : tie.Need-csr-of-requires
+csr-of-requires c κs = search needs
+
+enum-known-command-2 : tie.Need-enum-known-command-2
+enum-known-command-2 c = search needs
+
+enum-told-7 : tie.Need-enum-told-7
+enum-told-7 c = search needs
+
+enum-told-8 : tie.Need-enum-told-8
+enum-told-8 c = search needs
 
 fetch-control-requires-2 : tie.Need-fetch-control-requires-2
 fetch-control-requires-2 c κs = search needs
@@ -65,85 +62,78 @@ fetch-control-requires-2 c κs = search needs
 end-control-write-requires : tie.Need-end-control-write-requires
 end-control-write-requires c κs = search needs
 
-enum-told-12 : tie.Need-enum-told-12
-enum-told-12 c = search needs
+enum-told-9 : tie.Need-enum-told-9
+enum-told-9 c = search needs
 
-csr-of-requires : tie.Need-csr-of-requires
-csr-of-requires c κs = search needs
+enum-told-10 : tie.Need-enum-told-10
+enum-told-10 c = search needs
 
-enum-told-13 : tie.Need-enum-told-13
-enum-told-13 c = search needs
+enum-told-11 : tie.Need-enum-told-11
+enum-told-11 c = search needs
 
 returns : tie.Need-returns
 returns c = rw (c .enum-told .given .1)
 
 returns-2 : tie.Need-returns-2
-returns-2 c = rw (c .before .before .command .given .1, ← c .general-of .ensures)
+returns-2 c = rw (c .enum-told2 .given .1)
 
 returns-3 : tie.Need-returns-3
-returns-3 c = rw (c .enum-told2 .given .1)
+returns-3 c = rw (c .before .enum-told3 .given .1, ← c .end-access .ensures)
 
 returns-4 : tie.Need-returns-4
-returns-4 c = rw (c .before .enum-told3 .given .1, ← c .end-access .ensures)
+returns-4 c = rw (c .before .enum-told4 .given .1, ← c .end-access2 .ensures)
 
 returns-5 : tie.Need-returns-5
-returns-5 c = rw (c .before .enum-told4 .given .1, ← c .end-access2 .ensures)
+returns-5 c = rw (c .before .before .before .before .before .command .given .1, c .before .before .source .given .1, ← c .general-of .ensures)
 
 returns-6 : tie.Need-returns-6
-returns-6 c = rw (c .before .enum-told5 .given .1, ← c .end-access3 .ensures)
+returns-6 c = rw (c .before .before .before .before .before .command .given .1, c .before .before .enum-told5 .given .1, ← c .before .fetch-control .ensures, ← c .end-control .ensures)
 
 returns-7 : tie.Need-returns-7
-returns-7 c = rw (c .before .enum-told6 .given .1, ← c .end-access4 .ensures)
+returns-7 c = rw (c .before .before .before .before .command .given .1, c .before .enum-told6 .given .1, ← c .csr-of .ensures)
 
 returns-8 : tie.Need-returns-8
-returns-8 c = rw (c .enum-told7 .given .1)
+returns-8 c = rw (c .before .before .before .command2 .given .1, c .enum-told7 .given .1)
 
 returns-9 : tie.Need-returns-9
-returns-9 c = rw (c .enum-told8 .given .1)
+returns-9 c = rw (c .before .before .before .before .before .command2 .given .1, c .before .before .enum-told8 .given .1, ← c .before .fetch-control2 .ensures, ← c .end-control-write .ensures)
 
 returns-10 : tie.Need-returns-10
-returns-10 c = rw (c .enum-told9 .given .1)
+returns-10 c = rw (c .before .before .before .command2 .given .1, c .enum-told9 .given .1)
 
 returns-11 : tie.Need-returns-11
-returns-11 c = rw (c .before .before .enum-told10 .given .1, ← c .before .fetch-control .ensures, ← c .end-control .ensures)
+returns-11 c = rw (c .before .before .before .command2 .given .1, c .enum-told10 .given .1)
 
 returns-12 : tie.Need-returns-12
-returns-12 c = rw (c .before .before .enum-told11 .given .1, ← c .before .fetch-control2 .ensures, ← c .end-control-write .ensures)
-
-returns-13 : tie.Need-returns-13
-returns-13 c = rw (c .before .enum-told12 .given .1, ← c .csr-of .ensures)
-
-returns-14 : tie.Need-returns-14
-returns-14 c = rw (c .enum-told13 .given .1)
+returns-12 c = rw (c .before .before .before .command2 .given .1, c .enum-told11 .given .1)
 
 pub find-ending-spec : {M : Type 1} → statement M
 find-ending-spec =
     tie.close
     (tie.spec
     enum-told
-    enum-known-command
-    general-of-requires
     enum-told-2
     enum-told-3
     end-access-requires
     enum-told-4
     end-access-requires-2
+    enum-known-command
+    enum-known-source
+    cast-general-of
+    general-of-requires
     enum-told-5
-    end-access-requires-3
-    enum-told-6
-    end-access-requires-4
-    enum-told-7
-    enum-told-8
-    enum-told-9
-    enum-told-10
     fetch-control-requires
     end-control-requires
-    enum-told-11
+    enum-told-6
+    csr-of-requires
+    enum-known-command-2
+    enum-told-7
+    enum-told-8
     fetch-control-requires-2
     end-control-write-requires
-    enum-told-12
-    csr-of-requires
-    enum-told-13
+    enum-told-9
+    enum-told-10
+    enum-told-11
     returns
     returns-2
     returns-3
@@ -155,6 +145,4 @@ find-ending-spec =
     returns-9
     returns-10
     returns-11
-    returns-12
-    returns-13
-    returns-14)
+    returns-12)

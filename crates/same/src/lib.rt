@@ -1,0 +1,1 @@
+// Only definitions: what the spike is held against.
