@@ -1,2 +1,0 @@
-pub mod Commands
-pub mod Same

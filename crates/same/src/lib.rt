@@ -1,1 +1,0 @@
-// Only definitions: what the spike is held against.
