@@ -15,18 +15,18 @@ use Rattle.memory.specs.Memory.{bytes, aligned, present, valueAt, fetched, stor
 use Rattle.memory.specs.MemoryLaws.{either, store-keeps-bytes, store-keeps-length, value-within, limit}
 use Rattle.command.specs.declared.Command.{Command}
 use Rattle.command.specs.declared.Command.the-variants.{Unknown, Nop, Load, Store, Show, Change}
+use Rattle.command.specs.declared.Source.{Source}
 use Rattle.command.specs.declared.Source.the-variants as source
-use Rattle.command.specs.declared.Target.the-variants as target
 use Rattle.board.specs.declared.Board.{Board}
 use Rattle.board.specs.declared.Place.{Place}
 use Rattle.registers.specs.Csr.{flag, csrValue}
-use Rattle.registers.specs.Registers.{controlPlace, controlListed, controlFetched}
+use Rattle.registers.specs.Registers.{controlPlace, controlListed, controlFetched, shown, reached}
 use Rattle.work.specs.declared.Access.{Access}
 use Rattle.work.specs.declared.Access.the-variants.{NoAccess, Fetched, Stored, Missing}
 use Rattle.work.specs.declared.Ending.{Ending}
 use Rattle.work.specs.declared.Ending.the-variants.{Complete, Failed, OneWord, TwoWords}
 use Rattle.work.specs.Access.{past, fetchedAccess, fetching, storing, startOf, accessOf, memoryAfter, pointerAfter}
-use Rattle.work.specs.Work.{accessEnding, controlEnding, controlWriteEnding, endingOf, firstReply, phaseAfter, placeAfter}
+use Rattle.work.specs.Work.{accessEnding, shownEnding, changeEnding, endingOf, firstReply, phaseAfter, placeAfter}
 use Rattle.port.specs.Sound.{SoundBoard, PhaseWithin, SoundPlace, SoundMemory}
 
 -- ---- memory and the pointer
@@ -93,28 +93,25 @@ access-ending-within (Fetched Long v past) h = h .0
 access-ending-within (Stored past) h = tt
 access-ending-within Missing h = tt
 
-control-ending-within : (b : Board) (n : ℕ) → SoundBoard b → EndingWithin (controlEnding (controlFetched b n))
+shown-within : (source : Source) (b : Board) (address : ℕ) → SoundBoard b → EndingWithin (shownEnding (shown source b address))
 unfolding controlFetched
-control-ending-within b n h =
-    either (λ f. EndingWithin (controlEnding f)) (controlListed n) (Value (getD (b .registers .control) (controlPlace n) 0)) BusError (λ e. h .control (controlPlace n)) (λ e. tt)
+shown-within (source.General n) b a h = h .general (n % 16)
+shown-within source.Control b a h =
+    either (λ f. EndingWithin (shownEnding f)) (controlListed a) (Value (getD (b .registers .control) (controlPlace a) 0)) BusError
+    (λ e. h .control (controlPlace a)) (λ e. tt)
+shown-within source.Csr b a h = csr-within b
 
-control-write-within : (f : Fetch) → EndingWithin (controlWriteEnding f)
-control-write-within (Value v) = tt
-control-write-within BusError = tt
+change-within : (t : Bool) → EndingWithin (changeEnding t)
+change-within true = tt
+change-within false = tt
 
 ending-within : (c : Command) (b : Board) (address : ℕ) (x : Access) → SoundBoard b → AccessWithin x → EndingWithin (endingOf c b address x)
 ending-within Unknown b a x h k = tt
 ending-within Nop b a x h k = tt
 ending-within (Load s base) b a x h k = access-ending-within x k
 ending-within (Store s base) b a x h k = access-ending-within x k
-ending-within (Show (source.General n)) b a x h k = h .general (n % 16)
-ending-within (Show source.Control) b a x h k = control-ending-within b a h
-ending-within (Show source.Csr) b a x h k = csr-within b
-ending-within (Change (target.General n)) b a x h k = tt
-ending-within (Change target.Control) b a x h k = control-write-within (controlFetched b a)
-ending-within (Change (target.Debug r)) b a x h k = tt
-ending-within (Change target.Run) b a x h k = tt
-ending-within (Change target.Sync) b a x h k = tt
+ending-within (Show source) b a x h k = shown-within source b a h
+ending-within (Change target) b a x h k = change-within (reached target a)
 
 next-within : (e : Ending) → EndingWithin e → firstReply e ≤ 0x1FFFF
 next-within Complete h = omega arith

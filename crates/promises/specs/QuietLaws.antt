@@ -29,11 +29,7 @@ module _ (b : Board) (s : Status) where
   calm-work (Show (source.General n)) address value p m h = refl
   calm-work (Show source.Control) address value p m h = refl
   calm-work (Show source.Csr) address value p m h = absurd h
-  calm-work (Change (target.General n)) address value p m h = refl
-  calm-work (Change target.Control) address value p m h = refl
-  calm-work (Change (target.Debug r)) address value p m h = refl
-  calm-work (Change target.Run) address value p m h = refl
-  calm-work (Change target.Sync) address value p m h = refl
+  calm-work (Change target) address value p m h = refl
 
   calm-place : (plan : Plan) (p : Place) (m : List ℕ) → PlanCalm plan → placeBy plan (withStatus b s) p m ≡ placeBy plan b p m
   calm-place (Hold phase) p m h = refl

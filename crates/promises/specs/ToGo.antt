@@ -14,6 +14,7 @@ use Rattle.memory.specs.Memory.{present, fetched}
 use Rattle.command.specs.declared.Command.{Command}
 use Rattle.command.specs.declared.Command.the-variants.{Unknown, Nop, Load, Store, Show, Change}
 use Rattle.command.specs.declared.Base.the-variants.{Address, Pointer}
+use Rattle.command.specs.declared.Source.{Source}
 use Rattle.command.specs.declared.Source.the-variants as source
 use Rattle.command.specs.declared.Target.the-variants as target
 use Rattle.command.specs.Command.{sizeWords, operandWords, resultWords, waits}
@@ -22,10 +23,10 @@ use Rattle.board.specs.declared.Place.{Place}
 use Rattle.board.specs.declared.Operands.{Operands}
 use Rattle.board.specs.declared.Phase.{Phase}
 use Rattle.board.specs.declared.Phase.the-variants.{Rest, Due, Waiting, Low}
-use Rattle.registers.specs.Registers.{controlFetched}
+use Rattle.registers.specs.Registers.{shown, reached}
 use Rattle.work.specs.declared.Access.the-variants.{Stored, Missing}
 use Rattle.work.specs.Access.{past, fetchedAccess, startOf, accessOf}
-use Rattle.work.specs.Work.{accessEnding, controlEnding, controlWriteEnding, endingOf, phaseAfter}
+use Rattle.work.specs.Work.{accessEnding, shownEnding, changeEnding, endingOf, phaseAfter}
 use Rattle.plan.specs.declared.Plan.{Plan}
 use Rattle.plan.specs.declared.Plan.the-variants.{Hold, Reject, Release, Work}
 use Rattle.plan.specs.Plan.{carriesC, addressIn, valueIn, withOperand, ready, waitsOf, collected, continued}
@@ -94,13 +95,18 @@ stores : (w : ℕ) (t : Bool) (past : ℕ) → toGo w (phaseAfter (accessEnding 
 stores w true past = zero-le
 stores w false past = zero-le
 
-control-read : (w : ℕ) (f : Fetch) → toGo w (phaseAfter (controlEnding f)) ≤ 1
-control-read w (Value v) = le-refl _
-control-read w BusError = zero-le
+shows : (w : ℕ) (f : Fetch) → toGo w (phaseAfter (shownEnding f)) ≤ 1
+shows w (Value v) = le-refl _
+shows w BusError = zero-le
 
-control-written : (w : ℕ) (f : Fetch) → toGo w (phaseAfter (controlWriteEnding f)) ≤ 0
-control-written w (Value v) = zero-le
-control-written w BusError = zero-le
+changes : (w : ℕ) (t : Bool) → toGo w (phaseAfter (changeEnding t)) ≤ 0
+changes w true = zero-le
+changes w false = zero-le
+
+two-shown : (source : Source) → uppers (Show source) ≡ 1
+two-shown (source.General n) = refl
+two-shown source.Control = refl
+two-shown source.Csr = refl
 
 work-to-go : (w : ℕ) (c : Command) (b : Board) (m : List ℕ) (pointer address : ℕ)
     → toGo w (phaseAfter (endingOf c b address (accessOf c m pointer address))) ≤ uppers c
@@ -108,14 +114,8 @@ work-to-go w Unknown b m pointer address = zero-le
 work-to-go w Nop b m pointer address = zero-le
 work-to-go w (Load s base) b m pointer address = accessed w s (fetched m s (startOf base pointer address)) (past s (startOf base pointer address))
 work-to-go w (Store s base) b m pointer address = stores w (present m s (startOf base pointer address)) (past s (startOf base pointer address))
-work-to-go w (Show (source.General n)) b m pointer address = le-refl _
-work-to-go w (Show source.Control) b m pointer address = control-read w (controlFetched b address)
-work-to-go w (Show source.Csr) b m pointer address = le-refl _
-work-to-go w (Change (target.General n)) b m pointer address = zero-le
-work-to-go w (Change target.Control) b m pointer address = control-written w (controlFetched b address)
-work-to-go w (Change (target.Debug r)) b m pointer address = zero-le
-work-to-go w (Change target.Run) b m pointer address = zero-le
-work-to-go w (Change target.Sync) b m pointer address = zero-le
+work-to-go w (Show source) b m pointer address = rw (two-shown source) (shows w (shown source b address))
+work-to-go w (Change target) b m pointer address = omega (arith, changes w (reached target address))
 
 -- a plan that leaves at most n to go
 abbrev pub PlanLeaves : ℕ → ℕ → Plan → Type 0

@@ -1,6 +1,6 @@
 -- Packets (01): the control and debug registers, and what each command's work leaves of the board.
 use Prim.Native.Nat.{ℕ, suc, _/_, _%_, _^_}
-use mathlib.Core.Bool.{Bool, cond, _||_}
+use mathlib.Core.Bool.{Bool, true, cond, _||_}
 use mathlib.Core.List.{List, [], _∷_}
 use lib.Dec.{eqb, ltb}
 use lib.ListN.{getD, set}
@@ -10,13 +10,15 @@ use Rattle.command.specs.declared.DebugRegister.{DebugRegister}
 use Rattle.command.specs.declared.DebugRegister.the-variants.{Csr, Baar, Aatr, Tdr, Pbr, Pbmr, Abhr, Ablr, Dbr, Dbmr}
 use Rattle.command.specs.declared.Command.{Command}
 use Rattle.command.specs.declared.Command.the-variants.{Unknown, Nop, Load, Store, Show, Change}
+use Rattle.command.specs.declared.Source.{Source}
 use Rattle.command.specs.declared.Source.the-variants as source
+use Rattle.command.specs.declared.Target.{Target}
 use Rattle.command.specs.declared.Target.the-variants as target
 use Rattle.board.specs.declared.Board.{Board}
 use Rattle.board.specs.declared.Status.{Status}
 use Rattle.board.specs.declared.Registers.{Registers}
 use Rattle.board.specs.declared.Debug.{Debug}
-use Rattle.registers.specs.Csr.{csrWritten, afterCsrRead, afterGo, afterSyncPc}
+use Rattle.registers.specs.Csr.{csrWritten, csrValue, afterCsrRead, afterGo, afterSyncPc}
 
 -- "Control registers: .."
 abbrev pub controlNumbers : List ℕ
@@ -91,17 +93,38 @@ unfoldable pub withDebugWritten : Board → DebugRegister → ℕ → Board
 withDebugWritten b r v =
     record { w = b .w; status = cond (isTdr r) (armed (b .status) v) (b .status); registers = b .registers; debug = debugWritten r v (b .debug) }
 
--- the board after a command's work; memory commands leave it alone. "Reading clears FOF, TRG, HALT, BKPT, and BSTAT if 2 or 6"
+-- what a command shows: a longword, or nothing where the register is not listed
+abbrev pub shown : Source → Board → ℕ → Fetch
+shown (source.General n) b address = Value (getD (b .registers .general) (n % 16) 0)
+shown source.Control b address = controlFetched b address
+shown source.Csr b address = Value (csrValue b)
+
+-- "Reading clears FOF, TRG, HALT, BKPT, and BSTAT if 2 or 6"; other registers are shown and stay
+abbrev pub afterShow : Source → Board → Board
+afterShow (source.General n) b = b
+afterShow source.Control b = b
+afterShow source.Csr b = withStatus b (afterCsrRead (b .status))
+
+-- what a command changes is there, but for a control register that is not listed
+abbrev pub reached : Target → ℕ → Bool
+reached (target.General n) address = true
+reached target.Control address = controlListed address
+reached (target.Debug r) address = true
+reached target.Run address = true
+reached target.Sync address = true
+
+abbrev pub changed : Target → Board → ℕ → ℕ → Board
+changed (target.General n) b address value = withGeneral b n value
+changed target.Control b address value = withControl b address value
+changed (target.Debug r) b address value = withDebugWritten b r value
+changed target.Run b address value = withStatus b (afterGo (b .status))
+changed target.Sync b address value = withStatus b (afterSyncPc (b .status))
+
+-- the board after a command's work; memory commands leave it alone
 abbrev pub boardAfter : Command → Board → ℕ → ℕ → Board
 boardAfter Unknown b address value = b
 boardAfter Nop b address value = b
 boardAfter (Load s base) b address value = b
 boardAfter (Store s base) b address value = b
-boardAfter (Show (source.General n)) b address value = b
-boardAfter (Show source.Control) b address value = b
-boardAfter (Show source.Csr) b address value = withStatus b (afterCsrRead (b .status))
-boardAfter (Change (target.General n)) b address value = withGeneral b n value
-boardAfter (Change target.Control) b address value = withControl b address value
-boardAfter (Change (target.Debug r)) b address value = withDebugWritten b r value
-boardAfter (Change target.Run) b address value = withStatus b (afterGo (b .status))
-boardAfter (Change target.Sync) b address value = withStatus b (afterSyncPc (b .status))
+boardAfter (Show source) b address value = afterShow source b
+boardAfter (Change target) b address value = changed target b address value

@@ -3,7 +3,8 @@ ghost use mathlib.Core.Path.{_≡_};
 ghost use Prim.Native.Nat.{_%_, _≤_};
 ghost use lib.ListN.{getD};
 ghost use Rattle.registers.specs.Csr.{flag, csrWritten, csrValue, bstatRead, afterCsrRead, afterGo, afterSyncPc};
-ghost use Rattle.registers.specs.Registers.{controlPlace, controlFetched, withControl, withGeneral, isTdr, armed, debugWritten, withDebugWritten, boardAfter};
+ghost use Rattle.registers.specs.Registers.{controlPlace, controlListed, controlFetched, withControl, withGeneral, boardAfter};
+ghost use Rattle.registers.specs.Registers.{isTdr, armed, debugWritten, withDebugWritten};
 use board::Board;
 use board::Debug;
 use board::Status;
@@ -114,6 +115,12 @@ pub fn general_of(board: Board, n: u32) -> u32
     let registers = board.registers;
     let i = (n % 16) as usize;
     registers.general[i]
+}
+
+pub fn is_listed(number: u32) -> bool
+    ensures { λ r. ⌜ r ≡ controlListed number ⌝ }
+{
+    place_of(number) < 10
 }
 
 pub fn fetch_control(board: Board, number: u32) -> Fetch

@@ -114,11 +114,7 @@ ending-alike (Store s base) b a x = refl
 ending-alike (Show (source.General n)) b a x = refl
 ending-alike (Show source.Control) b a x = refl
 ending-alike (Show source.Csr) b a x = refl
-ending-alike (Change (target.General n)) b a x = refl
-ending-alike (Change target.Control) b a x = refl
-ending-alike (Change (target.Debug r)) b a x = refl
-ending-alike (Change target.Run) b a x = refl
-ending-alike (Change target.Sync) b a x = refl
+ending-alike (Change target) b a x = refl
 
 board-alike : (plan : Plan) (b : Board) → Alike (boardBy plan (plain b)) (boardBy plan b)
 board-alike (Hold phase) b = plain-alike b

@@ -1,21 +1,18 @@
 -- Packets (01): what a command's work ends in, and what it leaves at the place.
 use Prim.Native.Nat.{ℕ, _/_, _%_}
-use lib.ListN.{getD}
+use mathlib.Core.Bool.{Bool, true, false}
 use Rattle.memory.specs.declared.Size.the-variants.{Byte, Word, Long}
 use Rattle.memory.specs.declared.Fetch.{Fetch}
 use Rattle.memory.specs.declared.Fetch.the-variants.{Value, BusError}
 use Rattle.command.specs.declared.Command.{Command}
 use Rattle.command.specs.declared.Command.the-variants.{Unknown, Nop, Load, Store, Show, Change}
-use Rattle.command.specs.declared.Source.the-variants as source
-use Rattle.command.specs.declared.Target.the-variants as target
 use Rattle.board.specs.declared.Board.{Board}
 use Rattle.board.specs.declared.Phase.{Phase}
 use Rattle.board.specs.declared.Phase.the-variants.{Rest, Low}
 use Rattle.board.specs.declared.Chain.{Chain}
 use Rattle.board.specs.declared.Chain.the-variants.{Off, Dumping, Filling}
 use Rattle.board.specs.declared.Place.{Place}
-use Rattle.registers.specs.Csr.{csrValue}
-use Rattle.registers.specs.Registers.{controlFetched}
+use Rattle.registers.specs.Registers.{shown, reached}
 use Rattle.work.specs.declared.Access.{Access}
 use Rattle.work.specs.declared.Access.the-variants.{NoAccess, Fetched, Stored, Missing}
 use Rattle.work.specs.declared.Ending.{Ending}
@@ -30,13 +27,14 @@ accessEnding (Fetched Long v past) = TwoWords v
 accessEnding (Stored past) = Complete
 accessEnding Missing = Failed
 
-abbrev pub controlEnding : Fetch → Ending
-controlEnding (Value v) = TwoWords v
-controlEnding BusError = Failed
+-- a register shown has two result words
+abbrev pub shownEnding : Fetch → Ending
+shownEnding (Value v) = TwoWords v
+shownEnding BusError = Failed
 
-abbrev pub controlWriteEnding : Fetch → Ending
-controlWriteEnding (Value v) = Complete
-controlWriteEnding BusError = Failed
+abbrev pub changeEnding : Bool → Ending
+changeEnding true = Complete
+changeEnding false = Failed
 
 -- the column "Result words", or a bus error
 abbrev pub endingOf : Command → Board → ℕ → Access → Ending
@@ -44,14 +42,8 @@ endingOf Unknown b address access = Complete
 endingOf Nop b address access = Complete
 endingOf (Load s base) b address access = accessEnding access
 endingOf (Store s base) b address access = accessEnding access
-endingOf (Show (source.General n)) b address access = TwoWords (getD (b .registers .general) (n % 16) 0)
-endingOf (Show source.Control) b address access = controlEnding (controlFetched b address)
-endingOf (Show source.Csr) b address access = TwoWords (csrValue b)
-endingOf (Change (target.General n)) b address access = Complete
-endingOf (Change target.Control) b address access = controlWriteEnding (controlFetched b address)
-endingOf (Change (target.Debug r)) b address access = Complete
-endingOf (Change target.Run) b address access = Complete
-endingOf (Change target.Sync) b address access = Complete
+endingOf (Show source) b address access = shownEnding (shown source b address)
+endingOf (Change target) b address access = changeEnding (reached target address)
 
 -- "Of two result words the upper comes first"; "S=0 with data, or 0x0FFFF complete; .. 0x10001 bus error"
 abbrev pub firstReply : Ending → ℕ

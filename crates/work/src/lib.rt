@@ -1,7 +1,7 @@
 // What a command does once its last word is in and its waits are over (01, "Packets").
 ghost use mathlib.Core.Path.{_≡_};
 ghost use Rattle.work.specs.Access.{past, fetching, storing, startOf, accessOf, memoryAfter, pointerAfter};
-ghost use Rattle.work.specs.Work.{accessEnding, controlEnding, controlWriteEnding, endingOf, firstReply, phaseAfter, chainBy, chainAfter, placeAfter};
+ghost use Rattle.work.specs.Work.{accessEnding, shownEnding, changeEnding, endingOf, firstReply, phaseAfter, chainBy, chainAfter, placeAfter};
 ghost use Rattle.memory.specs.Memory.{stored};
 use board::Board;
 use board::Chain;
@@ -105,8 +105,8 @@ fn end_access(access: Access) -> Ending
     }
 }
 
-fn end_control(found: Fetch) -> Ending
-    ensures { λ r. ⌜ r ≡ controlEnding found ⌝ }
+fn end_shown(found: Fetch) -> Ending
+    ensures { λ r. ⌜ r ≡ shownEnding found ⌝ }
 {
     match found {
         Fetch::Value(value) => Ending::TwoWords(value),
@@ -114,13 +114,13 @@ fn end_control(found: Fetch) -> Ending
     }
 }
 
-fn end_control_write(found: Fetch) -> Ending
-    ensures { λ r. ⌜ r ≡ controlWriteEnding found ⌝ }
+fn end_change(reached: bool) -> Ending
+    ensures { λ r. ⌜ r ≡ changeEnding reached ⌝ }
 {
-    match found {
-        Fetch::Value(_) => Ending::Complete,
-        Fetch::BusError => Ending::Failed,
+    if reached {
+        return Ending::Complete;
     }
+    Ending::Failed
 }
 
 pub fn find_ending(command: Command, board: Board, address: u32, access: Access) -> Ending
@@ -133,12 +133,12 @@ pub fn find_ending(command: Command, board: Board, address: u32, access: Access)
         Command::Store(_, _) => end_access(access),
         Command::Show(source) => match source {
             Source::General(n) => Ending::TwoWords(registers::general_of(board, n as u32)),
-            Source::Control => end_control(registers::fetch_control(board, address)),
+            Source::Control => end_shown(registers::fetch_control(board, address)),
             Source::Csr => Ending::TwoWords(registers::csr_of(board)),
         },
         Command::Change(target) => match target {
             Target::General(_) => Ending::Complete,
-            Target::Control => end_control_write(registers::fetch_control(board, address)),
+            Target::Control => end_change(registers::is_listed(address)),
             Target::Debug(_) => Ending::Complete,
             Target::Run => Ending::Complete,
             Target::Sync => Ending::Complete,

@@ -38,8 +38,8 @@ enum-told-5 c = search needs
 fetch-control-requires : tie.Need-fetch-control-requires
 fetch-control-requires c κs = search needs
 
-end-control-requires : tie.Need-end-control-requires
-end-control-requires c κs = search needs
+end-shown-requires : tie.Need-end-shown-requires
+end-shown-requires c κs = search needs
 
 enum-told-6 : tie.Need-enum-told-6
 enum-told-6 c = search needs
@@ -56,11 +56,11 @@ enum-told-7 c = search needs
 enum-told-8 : tie.Need-enum-told-8
 enum-told-8 c = search needs
 
-fetch-control-requires-2 : tie.Need-fetch-control-requires-2
-fetch-control-requires-2 c κs = search needs
+is-listed-requires : tie.Need-is-listed-requires
+is-listed-requires c κs = search needs
 
-end-control-write-requires : tie.Need-end-control-write-requires
-end-control-write-requires c κs = search needs
+end-change-requires : tie.Need-end-change-requires
+end-change-requires c κs = search needs
 
 enum-told-9 : tie.Need-enum-told-9
 enum-told-9 c = search needs
@@ -87,7 +87,7 @@ returns-5 : tie.Need-returns-5
 returns-5 c = rw (c .before .before .before .before .before .command .given .1, c .before .before .source .given .1, ← c .general-of .ensures)
 
 returns-6 : tie.Need-returns-6
-returns-6 c = rw (c .before .before .before .before .before .command .given .1, c .before .before .enum-told5 .given .1, ← c .before .fetch-control .ensures, ← c .end-control .ensures)
+returns-6 c = rw (c .before .before .before .before .before .command .given .1, c .before .before .enum-told5 .given .1, ← c .before .fetch-control .ensures, ← c .end-shown .ensures)
 
 returns-7 : tie.Need-returns-7
 returns-7 c = rw (c .before .before .before .before .command .given .1, c .before .enum-told6 .given .1, ← c .csr-of .ensures)
@@ -96,7 +96,7 @@ returns-8 : tie.Need-returns-8
 returns-8 c = rw (c .before .before .before .command2 .given .1, c .enum-told7 .given .1)
 
 returns-9 : tie.Need-returns-9
-returns-9 c = rw (c .before .before .before .before .before .command2 .given .1, c .before .before .enum-told8 .given .1, ← c .before .fetch-control2 .ensures, ← c .end-control-write .ensures)
+returns-9 c = rw (c .before .before .before .before .before .command2 .given .1, c .before .before .enum-told8 .given .1, ← c .before .is-listed .ensures, ← c .end-change .ensures)
 
 returns-10 : tie.Need-returns-10
 returns-10 c = rw (c .before .before .before .command2 .given .1, c .enum-told9 .given .1)
@@ -123,14 +123,14 @@ find-ending-spec =
     general-of-requires
     enum-told-5
     fetch-control-requires
-    end-control-requires
+    end-shown-requires
     enum-told-6
     csr-of-requires
     enum-known-command-2
     enum-told-7
     enum-told-8
-    fetch-control-requires-2
-    end-control-write-requires
+    is-listed-requires
+    end-change-requires
     enum-told-9
     enum-told-10
     enum-told-11
