@@ -11,11 +11,9 @@ use borrow.Author.Tests.{le-leb}
 use Rattle.memory.specs.MemoryLaws.{either, AllBelow, set-keeps-below}
 use Rattle.command.specs.declared.DebugRegister.{DebugRegister}
 use Rattle.command.specs.declared.Command.{Command}
-use Rattle.command.specs.declared.Command.the-variants.{Unknown, Nop, Load, Store, Show, Change}
-use Rattle.command.specs.declared.Source.the-variants as source
-use Rattle.command.specs.declared.Target.the-variants as target
 use Rattle.command.specs.Command.{operandWords}
 use Rattle.board.specs.declared.Board.{Board}
+use Rattle.board.specs.declared.Status.{Status}
 use Rattle.board.specs.declared.Debug.{Debug}
 use Rattle.board.specs.declared.Phase.{Phase}
 use Rattle.board.specs.declared.Phase.the-variants.{Rest, Due, Waiting, Low}
@@ -23,7 +21,9 @@ use Rattle.board.specs.declared.Place.{Place}
 use Rattle.board.specs.Board.{freshBoard, freshPlace}
 use Rattle.board.specs.Ranges.{phaseInRange, bstatInRange, inRange}
 use Rattle.registers.specs.Csr.{csrWritten, bstatRead}
-use Rattle.registers.specs.Registers.{controlPlace, controlListed, withControl, withRegisters, debugNumber, debugLoaded, armed, withDebugWritten, boardAfter}
+use Rattle.registers.specs.Registers.{controlPlace, controlListed, withStatus, withControl, withRegisters, boardAfter}
+use Rattle.registers.specs.Registers.{debugNumber, debugLoaded, armed, withDebugWritten}
+use Rattle.registers.specs.ChangeLaws.{each-change}
 use Rattle.plan.specs.declared.Plan.{Plan}
 use Rattle.plan.specs.declared.Plan.the-variants.{Hold, Reject, Release, Work}
 use Rattle.plan.specs.Plan.{planOf}
@@ -96,20 +96,24 @@ control-write-keeps b n v f h =
     (λ e. h)
 
 pub work-keeps-board : (c : Command) (b : Board) (address value : ℕ) → value < 2 ^ 32 → SoundBoard b → SoundBoard (boardAfter c b address value)
-work-keeps-board Unknown b a v f h = h
-work-keeps-board Nop b a v f h = h
-work-keeps-board (Load s base) b a v f h = h
-work-keeps-board (Store s base) b a v f h = h
-work-keeps-board (Show (source.General n)) b a v f h = h
-work-keeps-board (Show source.Control) b a v f h = h
-work-keeps-board (Show source.Csr) b a v f h =
-    record { setting = h .setting; bstat = read-in-range (b .status .bstat) (h .bstat); general = h .general; control = h .control; debug = h .debug }
-work-keeps-board (Change (target.General n)) b a v f h =
-    record { setting = h .setting; bstat = h .bstat; general = set-keeps-below (2 ^ 32) (b .registers .general) (n % 16) v (h .general) f; control = h .control; debug = h .debug }
-work-keeps-board (Change target.Control) b a v f h = control-write-keeps b a v f h
-work-keeps-board (Change (target.Debug r)) b a v f h = debug-write-keeps b r v f h
-work-keeps-board (Change target.Run) b a v f h = record { setting = h .setting; bstat = h .bstat; general = h .general; control = h .control; debug = h .debug }
-work-keeps-board (Change target.Sync) b a v f h = record { setting = h .setting; bstat = h .bstat; general = h .general; control = h .control; debug = h .debug }
+work-keeps-board c b a v f h =
+    each-change (λ change. SoundBoard (change b)) a v
+    (record {
+      none = h;
+      csrRead = with-bstat (read-in-range (b .status .bstat) (h .bstat));
+      general = λ n. with-general (set-keeps-below (2 ^ 32) (b .registers .general) (n % 16) v (h .general) f);
+      control = control-write-keeps b a v f h;
+      debug = λ r. debug-write-keeps b r v f h;
+      go = with-bstat (h .bstat);
+      syncPc = with-bstat (h .bstat);
+    })
+    c
+  where
+    with-bstat : {s : Status} → bstatInRange (s .bstat) ≡ true → SoundBoard (withStatus b s)
+    with-bstat e = record { setting = h .setting; bstat = e; general = h .general; control = h .control; debug = h .debug }
+
+    with-general : {g : List ℕ} → AllBelow (2 ^ 32) g → SoundBoard (withRegisters b (record { general = g; control = b .registers .control }))
+    with-general e = record { setting = h .setting; bstat = h .bstat; general = e; control = h .control; debug = h .debug }
 
 -- ---- the packet
 module _ (b : Board) (p : Place) (m : List ℕ) (h : SoundBoard b) (k : SoundPlace (b .w) p) (l : SoundMemory m) where
@@ -144,24 +148,18 @@ module _ (b : Board) (p : Place) (m : List ℕ) (h : SoundBoard b) (k : SoundPla
   packet-keeps-memory word = plan-keeps-memory (planOf (p .phase) (b .status .halted) (p .chain) (b .w) word)
 
 -- ---- W
+control-keeps-w : (b : Board) (n v : ℕ) → withControl b n v .w ≡ b .w
+unfolding withControl
+control-keeps-w b n v =
+    either (λ (x : Board). x .w ≡ b .w) (controlListed n)
+    (withRegisters b (record { general = b .registers .general; control = set (b .registers .control) (controlPlace n) v })) b
+    (λ e. refl) (λ e. refl)
+
 work-keeps-w : (c : Command) (b : Board) (address value : ℕ) → boardAfter c b address value .w ≡ b .w
-unfolding withControl withDebugWritten
-work-keeps-w Unknown b a v = refl
-work-keeps-w Nop b a v = refl
-work-keeps-w (Load s base) b a v = refl
-work-keeps-w (Store s base) b a v = refl
-work-keeps-w (Show (source.General n)) b a v = refl
-work-keeps-w (Show source.Control) b a v = refl
-work-keeps-w (Show source.Csr) b a v = refl
-work-keeps-w (Change (target.General n)) b a v = refl
-work-keeps-w (Change target.Control) b a v = control (controlListed a)
-  where
-    control : (t : Bool) → cond t (withRegisters b (record { general = b .registers .general; control = set (b .registers .control) (controlPlace a) v })) b .w ≡ b .w
-    control true = refl
-    control false = refl
-work-keeps-w (Change (target.Debug r)) b a v = refl
-work-keeps-w (Change target.Run) b a v = refl
-work-keeps-w (Change target.Sync) b a v = refl
+unfolding withDebugWritten
+work-keeps-w c b a v =
+    each-change (λ change. change b .w ≡ b .w) a v
+    (record { none = refl; csrRead = refl; general = λ n. refl; control = control-keeps-w b a v; debug = λ r. refl; go = refl; syncPc = refl }) c
 
 pub packet-keeps-w : (b : Board) (p : Place) (word : ℕ) → boardNext b p word .w ≡ b .w
 unfolding boardNext

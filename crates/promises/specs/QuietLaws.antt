@@ -7,11 +7,11 @@ use lib.ListN.{set}
 use Rattle.command.specs.declared.Command.{Command}
 use Rattle.command.specs.declared.Command.the-variants.{Unknown, Nop, Load, Store, Show, Change}
 use Rattle.command.specs.declared.Source.the-variants as source
-use Rattle.command.specs.declared.Target.the-variants as target
 use Rattle.board.specs.declared.Board.{Board}
 use Rattle.board.specs.declared.Status.{Status}
 use Rattle.board.specs.declared.Place.{Place}
 use Rattle.registers.specs.Registers.{controlPlace, controlListed, controlFetched, withStatus, withRegisters, withControl, withDebugWritten, boardAfter}
+use Rattle.registers.specs.ChangeLaws.{each-change}
 use Rattle.plan.specs.declared.Plan.{Plan}
 use Rattle.plan.specs.declared.Plan.the-variants.{Hold, Reject, Release, Work}
 use Rattle.port.specs.Packets.{placeBy, boardBy, memoryBy, planFor, placeNext, boardNext, memoryNext}
@@ -54,18 +54,18 @@ module _ (b : Board) (s : Status) where
   -- whatever work is done, it leaves the boards alike
   same-work : (c : Command) (address value : ℕ) → SameButStatus (boardAfter c (withStatus b s) address value) (boardAfter c b address value)
   unfolding withDebugWritten
-  same-work Unknown address value = same
-  same-work Nop address value = same
-  same-work (Load z base) address value = same
-  same-work (Store z base) address value = same
-  same-work (Show (source.General n)) address value = same
-  same-work (Show source.Control) address value = same
-  same-work (Show source.Csr) address value = record { setting = refl; registers = refl; debug = refl }
-  same-work (Change (target.General n)) address value = record { setting = refl; registers = refl; debug = refl }
-  same-work (Change target.Control) address value = same-control address value
-  same-work (Change (target.Debug r)) address value = record { setting = refl; registers = refl; debug = refl }
-  same-work (Change target.Run) address value = record { setting = refl; registers = refl; debug = refl }
-  same-work (Change target.Sync) address value = record { setting = refl; registers = refl; debug = refl }
+  same-work c address value =
+      each-change (λ change. SameButStatus (change (withStatus b s)) (change b)) address value
+      (record {
+        none = same;
+        csrRead = record { setting = refl; registers = refl; debug = refl };
+        general = λ n. record { setting = refl; registers = refl; debug = refl };
+        control = same-control address value;
+        debug = λ r. record { setting = refl; registers = refl; debug = refl };
+        go = record { setting = refl; registers = refl; debug = refl };
+        syncPc = record { setting = refl; registers = refl; debug = refl };
+      })
+      c
 
   same-board : (plan : Plan) → SameButStatus (boardBy plan (withStatus b s)) (boardBy plan b)
   same-board (Hold phase) = same

@@ -1,2 +1,3 @@
 pub mod Csr
 pub mod Registers
+pub mod ChangeLaws

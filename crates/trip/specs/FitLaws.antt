@@ -9,7 +9,7 @@ use Rattle.memory.specs.MemoryLaws.{AllBelow}
 use Rattle.command.specs.declared.Command.{Command}
 use Rattle.command.specs.declared.Command.the-variants.{Unknown, Nop, Load, Store, Show, Change}
 use Rattle.command.specs.declared.Source.the-variants as source
-use Rattle.command.specs.declared.Target.the-variants as target
+use Rattle.command.specs.Command.{rdmreg, wdreg, go, syncPc}
 use Rattle.board.specs.declared.Board.{Board}
 use Rattle.board.specs.declared.Place.{Place}
 use Rattle.board.specs.Ranges.{bstatInRange, inRange}
@@ -18,6 +18,7 @@ use Rattle.work.specs.Access.{accessOf}
 use Rattle.work.specs.Work.{endingOf, placeAfter}
 use Rattle.registers.specs.Csr.{csrValue}
 use Rattle.registers.specs.Registers.{controlPlace, controlListed, controlFetched, withRegisters, withControl, debugLoaded, withDebugWritten, boardAfter}
+use Rattle.registers.specs.ChangeLaws.{each-change}
 use Rattle.plan.specs.declared.Plan.{Plan}
 use Rattle.plan.specs.declared.Plan.the-variants.{Hold, Reject, Release, Work}
 use Rattle.port.specs.Packets.{placeBy, boardBy, planFor, placeNext, boardNext, memoryNext}
@@ -92,18 +93,18 @@ control-alike false b n v = plain-alike b
 
 work-alike : (c : Command) (b : Board) (a v : ℕ) → Alike (boardAfter c (plain b) a v) (boardAfter c b a v)
 unfolding withControl withDebugWritten debugLoaded
-work-alike Unknown b a v = plain-alike b
-work-alike Nop b a v = plain-alike b
-work-alike (Load s base) b a v = plain-alike b
-work-alike (Store s base) b a v = plain-alike b
-work-alike (Show (source.General n)) b a v = plain-alike b
-work-alike (Show source.Control) b a v = plain-alike b
-work-alike (Show source.Csr) b a v = plain-alike (boardAfter (Show source.Csr) b a v)
-work-alike (Change (target.General n)) b a v = plain-alike (boardAfter (Change (target.General n)) b a v)
-work-alike (Change target.Control) b a v = control-alike (controlListed a) b a v
-work-alike (Change (target.Debug r)) b a v = record { w = refl; status = refl; registers = refl; csr = refl }
-work-alike (Change target.Run) b a v = plain-alike (boardAfter (Change target.Run) b a v)
-work-alike (Change target.Sync) b a v = plain-alike (boardAfter (Change target.Sync) b a v)
+work-alike c b a v =
+    each-change (λ change. Alike (change (plain b)) (change b)) a v
+    (record {
+      none = plain-alike b;
+      csrRead = plain-alike (boardAfter rdmreg b a v);
+      general = λ n. plain-alike (boardAfter (wdreg n) b a v);
+      control = control-alike (controlListed a) b a v;
+      debug = λ r. record { w = refl; status = refl; registers = refl; csr = refl };
+      go = plain-alike (boardAfter go b a v);
+      syncPc = plain-alike (boardAfter syncPc b a v);
+    })
+    c
 
 ending-alike : (c : Command) (b : Board) (a : ℕ) (x : Access) → endingOf c (plain b) a x ≡ endingOf c b a x
 unfolding csrValue controlFetched
