@@ -6,9 +6,7 @@ use mathlib.Core.Bool.{Bool, cond}
 use lib.Dec.{eqb}
 use native.Mathlib.Omega.{arith}
 use Rattle.command.specs.declared.Command.{Command}
-use Rattle.command.specs.declared.Command.the-variants.{Unknown, Nop, Load, Store, Show, Change}
-use Rattle.command.specs.declared.Source.the-variants as source
-use Rattle.command.specs.Command.{operandWords, waits}
+use Rattle.command.specs.Command.{rdmreg, operandWords, waits}
 use Rattle.board.specs.declared.Operands.{Operands}
 use Rattle.board.specs.declared.Phase.{Phase}
 use Rattle.board.specs.declared.Phase.the-variants.{Rest, Due, Waiting, Low}
@@ -20,27 +18,13 @@ use Rattle.port.specs.Sound.{PhaseWithin}
 use Rattle.memory.specs.MemoryLaws.{either}
 use Rattle.promises.specs.NopLaws.{nop-at-rest}
 
--- a command whose work does not read the status
+-- a command whose work does not read the status: any but RDMREG
 abbrev pub Calm : Command → Type 0
-Calm Unknown = Unit {0}
-Calm Nop = Unit {0}
-Calm (Load s base) = Unit {0}
-Calm (Store s base) = Unit {0}
-Calm (Show (source.General n)) = Unit {0}
-Calm (Show source.Control) = Unit {0}
-Calm (Show source.Csr) = ⊥
-Calm (Change target) = Unit {0}
+Calm c = c ≡ rdmreg → ⊥
 
 -- one with operands or waits
 calm : (c : Command) → 1 ≤ operandWords c + cond (waits c) 1 0 → Calm c
-calm Unknown h = tt
-calm Nop h = tt
-calm (Load s base) h = tt
-calm (Store s base) h = tt
-calm (Show (source.General n)) h = tt
-calm (Show source.Control) h = tt
-calm (Show source.Csr) h = absurd (omega arith)
-calm (Change target) h = tt
+calm c h e = let none : 1 ≤ operandWords rdmreg + cond (waits rdmreg) 1 0 = rw e at h in omega arith
 
 abbrev pub PlanCalm : Plan → Type 0
 PlanCalm (Hold phase) = Unit {0}
@@ -62,7 +46,7 @@ continued-calm c left t w word h =
     (λ z. tt))
 
 pub nop-calm : (w : ℕ) (phase : Phase) (halted : Bool) (chain : Chain) → PhaseWithin w phase → PlanCalm (planOf phase halted chain w 0)
-nop-calm w Rest halted chain h = rw (nop-at-rest halted chain w) tt
+nop-calm w Rest halted chain h = rw (nop-at-rest halted chain w) (λ e. let z : _≡_ {A = ℕ} 0 1 = cc in omega arith)
 nop-calm w (Due c left t) halted chain h = continued-calm c left t w 0 (calm c (omega (arith, h .0, h .1)))
 nop-calm w (Waiting c left address value) halted chain h = ready-calm (left - 1) c address value (calm c (rw (h .2) (omega arith)))
 nop-calm w (Low low) halted chain h = tt

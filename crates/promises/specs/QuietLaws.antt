@@ -28,7 +28,7 @@ module _ (b : Board) (s : Status) where
   calm-work (Store z base) address value p m h = refl
   calm-work (Show (source.General n)) address value p m h = refl
   calm-work (Show source.Control) address value p m h = refl
-  calm-work (Show source.Csr) address value p m h = absurd h
+  calm-work (Show source.Csr) address value p m h = absurd (h refl)
   calm-work (Change target) address value p m h = refl
 
   calm-place : (plan : Plan) (p : Place) (m : List ℕ) → PlanCalm plan → placeBy plan (withStatus b s) p m ≡ placeBy plan b p m

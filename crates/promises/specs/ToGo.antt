@@ -13,11 +13,10 @@ use Rattle.memory.specs.declared.Fetch.the-variants.{Value, BusError}
 use Rattle.memory.specs.Memory.{present, fetched}
 use Rattle.command.specs.declared.Command.{Command}
 use Rattle.command.specs.declared.Command.the-variants.{Unknown, Nop, Load, Store, Show, Change}
-use Rattle.command.specs.declared.Base.the-variants.{Address, Pointer}
 use Rattle.command.specs.declared.Source.{Source}
 use Rattle.command.specs.declared.Source.the-variants as source
-use Rattle.command.specs.declared.Target.the-variants as target
 use Rattle.command.specs.Command.{sizeWords, operandWords, resultWords, waits}
+use Rattle.command.specs.CommandLaws.{four-at-most}
 use Rattle.board.specs.declared.Board.{Board}
 use Rattle.board.specs.declared.Place.{Place}
 use Rattle.board.specs.declared.Operands.{Operands}
@@ -43,31 +42,6 @@ toGo w Rest = 0
 toGo w (Due c left t) = left + waitsOf w c + uppers c
 toGo w (Waiting c left address value) = left + uppers c
 toGo w (Low low) = 1
-
--- WRITE long and WCREG have four operands and no result words; READ long and RCREG two of each
-four-at-most : (c : Command) → operandWords c + uppers c ≤ 4
-four-at-most Unknown = omega arith
-four-at-most Nop = omega arith
-four-at-most (Load Byte Address) = omega arith
-four-at-most (Load Word Address) = omega arith
-four-at-most (Load Long Address) = omega arith
-four-at-most (Load Byte Pointer) = omega arith
-four-at-most (Load Word Pointer) = omega arith
-four-at-most (Load Long Pointer) = omega arith
-four-at-most (Store Byte Address) = omega arith
-four-at-most (Store Word Address) = omega arith
-four-at-most (Store Long Address) = omega arith
-four-at-most (Store Byte Pointer) = omega arith
-four-at-most (Store Word Pointer) = omega arith
-four-at-most (Store Long Pointer) = omega arith
-four-at-most (Show (source.General n)) = omega arith
-four-at-most (Show source.Control) = omega arith
-four-at-most (Show source.Csr) = omega arith
-four-at-most (Change (target.General n)) = omega arith
-four-at-most (Change target.Control) = omega arith
-four-at-most (Change (target.Debug r)) = omega arith
-four-at-most (Change target.Run) = omega arith
-four-at-most (Change target.Sync) = omega arith
 
 waits-at-most : (w : ℕ) (c : Command) → waitsOf w c ≤ w
 waits-at-most w c = either (λ (n : ℕ). n ≤ w) (waits c) w 0 (λ e. le-refl w) (λ e. zero-le)

@@ -47,10 +47,10 @@ abbrev pub anyC : List ℕ → Bool
 anyC [] = false
 anyC (d ∷ ds) = carriesC d || anyC ds
 
--- "Addresses .. go upper word first": the first two operand words
+-- "Addresses .. go upper word first": the first two operand words. One alone is data: FILL has no address
 abbrev pub addressSent : List ℕ → ℕ
 addressSent [] = 0
-addressSent (upper ∷ []) = 0
+addressSent (only ∷ []) = only
 addressSent (upper ∷ low ∷ ds) = long upper low
 
 -- what its work ends in

@@ -15,7 +15,8 @@ use Rattle.requests.specs.declared.ResultKind.{ResultKind}
 use Rattle.requests.specs.declared.ResultKind.the-variants.{NoResult, OfSize}
 use Rattle.requests.specs.Request.{kindOf}
 use Rattle.requests.specs.Words.{operands, builtWords}
-use Rattle.requests.specs.WordLaws.{size-words-bound, data-length}
+use Rattle.command.specs.CommandLaws.{size-words-bound}
+use Rattle.requests.specs.WordLaws.{data-length}
 use Rattle.requests.specs.Meant.{debugRows, commandOf}
 
 -- what holds of each command of a list of rows

@@ -28,11 +28,6 @@ and-right false b h = cc
 pub sets-front : (vs l : List ℕ) → length vs ≤ length l → sets l 0 vs ≡ vs ++ drop (length vs) l
 sets-front vs l h = rw (zero-add (length vs)) at (sets-eq vs l 0 (omega arith))
 
-pub size-words-bound : (size : Size) → sizeWords size ≤ 2
-size-words-bound Byte = omega arith
-size-words-bound Word = omega arith
-size-words-bound Long = omega arith
-
 pub data-length : (size : Size) (value : ℕ) → length (dataWords size value) ≡ sizeWords size
 data-length Byte value = refl
 data-length Word value = refl

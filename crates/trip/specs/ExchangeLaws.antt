@@ -17,7 +17,7 @@ use Rattle.requests.specs.declared.Reader.{Reader}
 use Rattle.requests.specs.declared.Reader.the-variants.{First, Closed}
 use Rattle.requests.specs.Request.{inRange, kindOf}
 use Rattle.requests.specs.Words.{commandWord, operands, builtWords}
-use Rattle.requests.specs.WordLaws.{size-words-bound}
+use Rattle.command.specs.CommandLaws.{size-words-bound}
 use Rattle.requests.specs.Replies.{fed, done}
 use Rattle.requests.specs.ReaderLaws.{done-uses-none}
 use Rattle.requests.specs.Meant.{commandOf}

@@ -5,11 +5,8 @@ use mathlib.Core.Path.{_≡_, refl}
 use mathlib.Core.Bool.{Bool, true, false, cond}
 use mathlib.Core.List.{List}
 use Rattle.command.specs.declared.Command.{Command}
-use Rattle.command.specs.declared.Command.the-variants.{Unknown, Nop, Load, Store, Show, Change}
-use Rattle.command.specs.declared.Base.the-variants.{Address, Pointer}
-use Rattle.command.specs.declared.Source.the-variants as source
-use Rattle.command.specs.declared.Target.the-variants as target
 use Rattle.command.specs.Command.{operandWords, waits}
+use Rattle.command.specs.CommandLaws.{four-at-most}
 use Rattle.board.specs.declared.Board.{Board}
 use Rattle.board.specs.declared.Chain.{Chain}
 use Rattle.board.specs.declared.Operands.{Operands}
@@ -27,7 +24,6 @@ use Rattle.port.specs.Packets.{placeBy, planFor, placeNext}
 use Rattle.port.specs.Run.{State, stateOf, stepped, ran}
 use Rattle.port.specs.Sound.{PhaseWithin}
 use Rattle.port.specs.SoundLaws.{packet-keeps-w}
-use Rattle.requests.specs.WordLaws.{size-words-bound}
 use Rattle.trip.specs.Exchange.{nops, atRest, resting, sceneOf, rested, restNops, restBudget}
 use Rattle.trip.specs.StepLaws.{by-test, waits-none, waits-more, due-none, due-more}
 use Rattle.trip.specs.FitLaws.{Fit, packet-keeps-fit}
@@ -82,22 +78,6 @@ left-falls {s} f more =
     omega (arith, plan-left (b .w) (planFor b p 0) b p (s .memory), plan-falls (b .w) (p .phase) (b .status .halted) (p .chain) (f .place .phase) more)
 
 -- ---- the budget
-operand-bound : (c : Command) → operandWords c ≤ 4
-operand-bound Unknown = omega arith
-operand-bound Nop = omega arith
-operand-bound (Load s Address) = omega arith
-operand-bound (Load s Pointer) = omega arith
-operand-bound (Store s Address) = omega (arith, size-words-bound s)
-operand-bound (Store s Pointer) = omega (arith, size-words-bound s)
-operand-bound (Show (source.General n)) = omega arith
-operand-bound (Show source.Control) = omega arith
-operand-bound (Show source.Csr) = omega arith
-operand-bound (Change (target.General n)) = omega arith
-operand-bound (Change target.Control) = omega arith
-operand-bound (Change (target.Debug r)) = omega arith
-operand-bound (Change target.Run) = omega arith
-operand-bound (Change target.Sync) = omega arith
-
 pub waits-bound : (w : ℕ) (c : Command) → waitsOf w c ≤ w
 waits-bound w c = by-command (waits c)
   where
@@ -107,7 +87,7 @@ waits-bound w c = by-command (waits c)
 
 left-bound : (w : ℕ) (phase : Phase) → w ≤ 15 → PhaseWithin w phase → left w phase ≤ restBudget
 left-bound w Rest h f = omega arith
-left-bound w (Due c n t) h f = omega (arith, f .1, operand-bound c, waits-bound w c)
+left-bound w (Due c n t) h f = omega (arith, f .1, four-at-most c, waits-bound w c)
 left-bound w (Waiting c n a v) h f = omega (arith, f .1)
 left-bound w (Low low) h f = omega arith
 

@@ -1,5 +1,6 @@
 use native.Mathlib.Omega.{arith}
-use Rattle.requests.specs.WordLaws.{size-words-bound, data-length}
+use Rattle.command.specs.CommandLaws.{size-words-bound}
+use Rattle.requests.specs.WordLaws.{data-length}
 use borrow.Author.Needs.{needs}
 use Rattle.requests.proofs.words.word_count.Statement.{statement}
 use Rattle.requests.proofs.words.word_count.Tie as tie
