@@ -1,2 +1,3 @@
 pub mod Access
 pub mod Work
+pub mod WorkLaws
