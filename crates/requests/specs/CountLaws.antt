@@ -6,6 +6,7 @@ use mathlib.Core.Bool.{Bool, true, false, cond}
 use mathlib.Core.List.{List, [], _∷_}
 use lib.Dec.{eqb}
 use lib.ListN.{length}
+use borrow.Author.Tests.{eqb-true}
 use Rattle.command.specs.declared.Command.{Command}
 use Rattle.command.specs.declared.Command.the-variants.{Unknown}
 use Rattle.command.specs.Command.{Row, lookedUp, rdmreg, sizeWords, operandWords, resultWords}
@@ -19,22 +20,24 @@ use Rattle.command.specs.CommandLaws.{size-words-bound}
 use Rattle.requests.specs.WordLaws.{data-length}
 use Rattle.requests.specs.Meant.{debugRows, commandOf}
 
--- what holds of each command of a list of rows
-abbrev Each : (Command → Type 0) → List Row → Type 0
-Each P [] = Unit {0}
-Each P (r ∷ rs) = P (r .command) × Each P rs
+-- what holds of each row's word and command
+abbrev pub EachRow : (ℕ → Command → Type 0) → List Row → Type 0
+EachRow P [] = Unit {0}
+EachRow P (r ∷ rs) = P (r .word) (r .command) × EachRow P rs
 
--- holds of a command that is found among them
-found-has : (P : Command → Type 0) (n : ℕ) (rs : List Row) → Each P rs → (lookedUp n rs ≡ Unknown → ⊥) → P (lookedUp n rs)
+-- holds of a number found among them
+pub found-has : (P : ℕ → Command → Type 0) (n : ℕ) (rs : List Row) → EachRow P rs → (lookedUp n rs ≡ Unknown → ⊥) → P n (lookedUp n rs)
 found-has P n [] each known = absurd (known refl)
-found-has P n (r ∷ rs) each known = by-test (eqb n (r .word)) (found-has P n rs (each .1)) known
+found-has P n (r ∷ rs) each known = by-number (eqb n (r .word)) refl (found-has P n rs (each .1)) known
   where
-    by-test : (t : Bool) → ((lookedUp n rs ≡ Unknown → ⊥) → P (lookedUp n rs)) → (cond t (r .command) (lookedUp n rs) ≡ Unknown → ⊥) → P (cond t (r .command) (lookedUp n rs))
-    by-test true later known = each .0
-    by-test false later known = later known
+    by-number : (t : Bool) → eqb n (r .word) ≡ t → ((lookedUp n rs ≡ Unknown → ⊥) → P n (lookedUp n rs))
+        → (cond t (r .command) (lookedUp n rs) ≡ Unknown → ⊥)
+        → P n (cond t (r .command) (lookedUp n rs))
+    by-number true e later known = rw (eqb-true n (r .word) e) (each .0)
+    by-number false e later known = later known
 
 -- RDMREG with n = 0, the one that is listed
-found-rdmreg : (P : Command → Type 0) (n : ℕ) → P rdmreg → (cond (eqb n 0) rdmreg Unknown ≡ Unknown → ⊥) → P (cond (eqb n 0) rdmreg Unknown)
+pub found-rdmreg : (P : Command → Type 0) (n : ℕ) → P rdmreg → (cond (eqb n 0) rdmreg Unknown ≡ Unknown → ⊥) → P (cond (eqb n 0) rdmreg Unknown)
 found-rdmreg P n p known = by-test (eqb n 0) known
   where
     by-test : (t : Bool) → (cond t rdmreg Unknown ≡ Unknown → ⊥) → P (cond t rdmreg Unknown)
@@ -55,7 +58,8 @@ operand-count SyncPc known = refl
 operand-count (Rcreg rc) known = refl
 operand-count (Wcreg rc value) known = refl
 operand-count (Rdmreg n) known = found-rdmreg (λ c. 0 ≡ operandWords c) n refl known
-operand-count (Wdmreg n value) known = found-has (λ c. 2 ≡ operandWords c) n debugRows (refl, (refl, (refl, (refl, (refl, (refl, (refl, (refl, (refl, (refl, tt)))))))))) known
+operand-count (Wdmreg n value) known =
+    found-has (λ k c. 2 ≡ operandWords c) n debugRows (refl, (refl, (refl, (refl, (refl, (refl, (refl, (refl, (refl, (refl, tt)))))))))) known
 
 pub word-count : (request : Request) → (commandOf request ≡ Unknown → ⊥) → length (builtWords request) ≡ 1 + operandWords (commandOf request)
 word-count request known = omega (arith, operand-count request known)
@@ -94,4 +98,5 @@ result-count SyncPc known = refl
 result-count (Rcreg rc) known = refl
 result-count (Wcreg rc value) known = refl
 result-count (Rdmreg n) known = found-rdmreg (λ c. 2 ≡ resultWords c) n refl known
-result-count (Wdmreg n value) known = found-has (λ c. 0 ≡ resultWords c) n debugRows (refl, (refl, (refl, (refl, (refl, (refl, (refl, (refl, (refl, (refl, tt)))))))))) known
+result-count (Wdmreg n value) known =
+    found-has (λ k c. 0 ≡ resultWords c) n debugRows (refl, (refl, (refl, (refl, (refl, (refl, (refl, (refl, (refl, (refl, tt)))))))))) known

@@ -20,11 +20,11 @@ use Rattle.requests.specs.Words.{commandWord, operands}
 use Rattle.requests.specs.WordLaws.{and-right}
 use Rattle.requests.specs.Meant.{commandOf}
 use Rattle.requests.specs.MeantLaws.{decoded-as-meant}
-use Rattle.requests.specs.CountLaws.{operand-count}
+use Rattle.requests.specs.CountLaws.{found-rdmreg, operand-count}
 use Rattle.trip.specs.Meaning.{Scene, meaning}
 use Rattle.trip.specs.Exchange.{legalThere}
 use Rattle.trip.specs.ClosingLaws.{taken}
-use Rattle.trip.specs.WorkLaws.{Meant, load-meant, store-meant, read-control-meant, write-control-meant, csr-fits, rdmreg-known, debug-meant}
+use Rattle.trip.specs.WorkLaws.{Meant, load-meant, store-meant, read-control-meant, write-control-meant, csr-fits, debug-meant}
 
 -- a legal word is a command's
 no-command : (c : Command) (halted : Bool) (chain : Chain) → legal c halted chain ≡ true → c ≡ Unknown → ⊥
@@ -71,7 +71,7 @@ work-is-meant SyncPc s h known = record { outcome = refl; leaves = refl; fits = 
 work-is-meant (Rcreg rc) s h known = rw (div-add-mod' rc 65536) (read-control-meant s rc rc)
 work-is-meant (Wcreg rc v) s h known = rw (div-add-mod' rc 65536, div-add-mod' v 65536) (write-control-meant s rc v)
 work-is-meant (Rdmreg n) s h known =
-    rdmreg-known (λ c. Meant c (addressIn (operandWords c) noOperands) (valueIn (operandWords c) noOperands) (OfSize Long) s (meaning (Rdmreg n) s)) n
+    found-rdmreg (λ c. Meant c (addressIn (operandWords c) noOperands) (valueIn (operandWords c) noOperands) (OfSize Long) s (meaning (Rdmreg n) s)) n
     (record { outcome = refl; leaves = refl; fits = λ f. csr-fits (s .board) })
     known
 work-is-meant (Wdmreg n v) s h known = rw (← operand-count (Wdmreg n v) known, div-add-mod' v 65536) (debug-meant n v v s known)

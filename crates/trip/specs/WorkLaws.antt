@@ -3,19 +3,19 @@ use Prim.Native.Nat.{ℕ, _^_, _≤_, _<_}
 use native.Mathlib.Omega.{arith}
 use mathlib.Core.Path.{_≡_, refl, ap}
 use mathlib.Core.Bool.{Bool, true, false, cond}
-use mathlib.Core.List.{List, [], _∷_}
-use lib.Dec.{eqb}
+use mathlib.Core.List.{List}
 use lib.Bits.{and-le-r}
-use borrow.Author.Tests.{eqb-true}
 use Rattle.memory.specs.declared.Size.{Size}
 use Rattle.memory.specs.declared.Size.the-variants.{Byte, Word, Long}
 use Rattle.memory.specs.Memory.{aligned, present, valueAt, fetched, putAt, stored}
 use Rattle.memory.specs.MemoryLaws.{AllBelow, limit, value-within}
+use Rattle.command.specs.declared.DebugRegister.{DebugRegister}
+use Rattle.command.specs.declared.DebugRegister.the-variants.{Csr, Baar, Aatr, Tdr, Pbr, Pbmr, Abhr, Ablr, Dbr, Dbmr}
 use Rattle.command.specs.declared.Command.{Command}
 use Rattle.command.specs.declared.Command.the-variants.{Unknown, Load, Store}
 use Rattle.command.specs.declared.Base.{Base}
 use Rattle.command.specs.Command as command
-use Rattle.command.specs.Command.{Row, lookedUp}
+use Rattle.command.specs.Command.{lookedUp}
 use Rattle.board.specs.declared.Board.{Board}
 use Rattle.board.specs.declared.Chain.{Chain}
 use Rattle.work.specs.declared.Access.the-variants.{Fetched, Missing}
@@ -23,12 +23,13 @@ use Rattle.work.specs.declared.Ending.{Ending}
 use Rattle.work.specs.Access.{past, fetching, startOf, accessOf, memoryAfter, pointerAfter}
 use Rattle.work.specs.Work.{accessEnding, endingOf, chainBy, chainAfter}
 use Rattle.registers.specs.Csr.{flag, csrValue}
-use Rattle.registers.specs.Registers.{controlPlace, controlListed, controlFetched, withControl, withDebugWritten, boardAfter}
+use Rattle.registers.specs.Registers.{controlPlace, controlListed, controlFetched, withControl, withDebugWritten, debugNumber, boardAfter}
 use Rattle.requests.specs.declared.Request.the-variants.{Wdmreg}
 use Rattle.requests.specs.declared.ResultKind.{ResultKind}
 use Rattle.requests.specs.declared.ResultKind.the-variants.{NoResult, OfSize}
 use Rattle.requests.specs.declared.Outcome.the-variants.{Value}
 use Rattle.requests.specs.Meant.{debugRows}
+use Rattle.requests.specs.CountLaws.{found-has}
 use Rattle.trip.specs.Meaning.{Scene, Meaning, meaning, reads, writes, readsControl, writesControl}
 use Rattle.trip.specs.ClosingLaws.{outcomeOf, Fits}
 use Rattle.trip.specs.StepLaws.{by-test}
@@ -103,7 +104,10 @@ module _ (size : Size) (s : Scene) where
       let there = fetched-there (s .memory) size at h in
       record {
         outcome = rw (h, there) (fetched-outcome size x (past size at));
-        leaves = rw (h, there) (ap (λ chain. record { board = s .board; chain = chain; pointer = past size at; memory = s .memory }) (fetched-chain size x (past size at) (Load size base) (s .chain)));
+        leaves =
+            rw (h, there)
+            (ap (λ chain. record { board = s .board; chain = chain; pointer = past size at; memory = s .memory })
+            (fetched-chain size x (past size at) (Load size base) (s .chain)));
         fits = λ f. rw there (fetched-fits size x (past size at) (value-within (s .memory) size (aligned size at) (f .bytes)));
       })
       (λ h. let missing = fetched-missing (s .memory) size at h in record { outcome = rw (h, missing); leaves = rw (h, missing); fits = λ f. rw missing tt })
@@ -139,30 +143,12 @@ unfolding csrValue
 csr-fits b =
     omega (arith, flag-within (b .status .fof), flag-within (b .status .trg), flag-within (b .status .halt), flag-within (b .status .bkpt), and-le-r (b .debug .csr) 0x0007FF70)
 
--- RDMREG with the one n that is listed
-pub rdmreg-known : (P : Command → Type 0) (n : ℕ) → P command.rdmreg → (cond (eqb n 0) command.rdmreg Unknown ≡ Unknown → ⊥) → P (cond (eqb n 0) command.rdmreg Unknown)
-rdmreg-known P n p known = by-number (eqb n 0) known
-  where
-    by-number : (t : Bool) → (cond t command.rdmreg Unknown ≡ Unknown → ⊥) → P (cond t command.rdmreg Unknown)
-    by-number true known = p
-    by-number false known = absurd (known refl)
-
--- what holds of each row's word and command holds of a number found among them
-abbrev EachRow : (ℕ → Command → Type 0) → List Row → Type 0
-EachRow P [] = Unit {0}
-EachRow P (r ∷ rs) = P (r .word) (r .command) × EachRow P rs
-
-found-there : (P : ℕ → Command → Type 0) (n : ℕ) (rs : List Row) → EachRow P rs → (lookedUp n rs ≡ Unknown → ⊥) → P n (lookedUp n rs)
-found-there P n [] each known = absurd (known refl)
-found-there P n (r ∷ rs) each known = by-number (eqb n (r .word)) refl (found-there P n rs (each .1)) known
-  where
-    by-number : (t : Bool) → eqb n (r .word) ≡ t → ((lookedUp n rs ≡ Unknown → ⊥) → P n (lookedUp n rs))
-        → (cond t (r .command) (lookedUp n rs) ≡ Unknown → ⊥)
-        → P n (cond t (r .command) (lookedUp n rs))
-    by-number true e later known = rw (eqb-true n (r .word) e) (each .0)
-    by-number false e later known = later known
-
-pub debug-meant : (n v a : ℕ) (s : Scene) → (lookedUp n debugRows ≡ Unknown → ⊥) → Meant (lookedUp n debugRows) a v NoResult s (meaning (Wdmreg n v) s)
+pub debug-meant : (n v a : ℕ) (s : Scene) → (lookedUp n debugRows ≡ Unknown → ⊥)
+    → Meant (lookedUp n debugRows) a v NoResult s (meaning (Wdmreg n v) s)
 unfolding withDebugWritten
 debug-meant n v a s known =
-    found-there (λ k c. Meant c a v NoResult s (meaning (Wdmreg k v) s)) n debugRows (record { outcome = refl; leaves = refl; fits = λ f. tt }, (record { outcome = refl; leaves = refl; fits = λ f. tt }, (record { outcome = refl; leaves = refl; fits = λ f. tt }, (record { outcome = refl; leaves = refl; fits = λ f. tt }, (record { outcome = refl; leaves = refl; fits = λ f. tt }, (record { outcome = refl; leaves = refl; fits = λ f. tt }, (record { outcome = refl; leaves = refl; fits = λ f. tt }, (record { outcome = refl; leaves = refl; fits = λ f. tt }, (record { outcome = refl; leaves = refl; fits = λ f. tt }, (record { outcome = refl; leaves = refl; fits = λ f. tt }, tt)))))))))) known
+    found-has (λ k c. Meant c a v NoResult s (meaning (Wdmreg k v) s)) n debugRows
+    (written Csr, (written Baar, (written Aatr, (written Tdr, (written Pbr, (written Pbmr, (written Abhr, (written Ablr, (written Dbr, (written Dbmr, tt)))))))))) known
+  where
+    written : (r : DebugRegister) → Meant (command.wdmreg r) a v NoResult s (meaning (Wdmreg (debugNumber r) v) s)
+    written r = record { outcome = refl; leaves = refl; fits = λ f. tt }
