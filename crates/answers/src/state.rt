@@ -15,8 +15,8 @@ fn values_of(board: Board) -> [u32; 39] {
     values[1] = one_if(board.status.halted);
     values[2] = registers::csr_of(board);
     values[3] = board.debug.tdr;
-    values[4] = board.debug.aatr;
-    values[5] = board.debug.baar;
+    values[4] = board.debug.aatr as u32;
+    values[5] = board.debug.baar as u32;
     values[6] = board.debug.pbr;
     values[7] = board.debug.pbmr;
     values[8] = board.debug.abhr;

@@ -24,11 +24,11 @@ pub struct Registers {
     pub control: [u32; 10],
 }
 
-// Of CSR the bits that are written.
+// Of CSR the bits that are written; "AATR keeps the low 16 bits, BAAR the low 8".
 pub struct Debug {
     pub csr: u32,
-    pub baar: u32,
-    pub aatr: u32,
+    pub baar: u8,
+    pub aatr: u16,
     pub tdr: u32,
     pub pbr: u32,
     pub pbmr: u32,

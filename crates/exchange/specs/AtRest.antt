@@ -15,6 +15,8 @@ use Rattle.board.specs.declared.Board.{Board}
 use Rattle.board.specs.declared.Place.{Place}
 use Rattle.port.specs.Packets.{unless}
 use Rattle.port.specs.Run.{State, stateOf}
+use Rattle.port.specs.Sound.{Sound}
+use Rattle.port.specs.SoundLaws.{sound-is-in-range}
 use Rattle.requests.specs.declared.Request.{Request}
 use Rattle.requests.specs.declared.Request.the-variants.{Read, Write}
 use Rattle.requests.specs.declared.Outcome.the-variants.{Value}
@@ -23,10 +25,9 @@ use Rattle.requests.specs.WordLaws.{and-left}
 use Rattle.trip.specs.Meaning.{Scene, meaning}
 use Rattle.trip.specs.Exchange.{resting, sceneOf, restBudget, legalThere, outcomeThere, stateThere, packetsThere}
 use Rattle.trip.specs.StepLaws.{by-test}
-use Rattle.trip.specs.FitLaws.{Fit, fit-is-in-range}
 use Rattle.trip.specs.Underway.{rest-stays}
 use Rattle.trip.specs.WriteRead.{write-then-read}
-use Rattle.trip.specs.Consequences.{left-fit}
+use Rattle.trip.specs.Consequences.{left-sound}
 use Rattle.exchange.specs.declared.Exchanged.the-variants.{Ended}
 use Rattle.exchange.specs.declared.Returned.{Returned}
 use Rattle.exchange.specs.Exchange.{exchangeVerdict, exchangedAs, toldExchange}
@@ -39,11 +40,11 @@ pub record FromRest (request : Request) (s : Scene) (next : ℕ) : Type 0 where
   pub scene : restScene (s .board) (resting s next .place) (s .memory) ≡ s
   pub none : restPackets (s .board) (resting s next .place) (s .memory) ≡ 0
 
-pub from-rest : (request : Request) (s : Scene) (next : ℕ) → inRange request ≡ true → Fit (resting s next) → FromRest request s next
+pub from-rest : (request : Request) (s : Scene) (next : ℕ) → inRange request ≡ true → Sound (resting s next) → FromRest request s next
 unfolding exchangeVerdict
 from-rest request s next h f =
     let stays = rest-stays restBudget (resting s next) refl in
-    record { verdict = rw (h, fit-is-in-range f, le-leb _ _ (f .memory .limit)); scene = ap sceneOf (stays .0); none = stays .1 }
+    record { verdict = rw (h, sound-is-in-range _ _ (f .board) (f .place), le-leb _ _ (f .memory .limit)); scene = ap sceneOf (stays .0); none = stays .1 }
 
 -- a legal request exchanged from rest: its meaning
 pub record EndsAsMeant (request : Request) (s : Scene) (r : Returned) (after : List ℕ) : Type 0 where
@@ -59,7 +60,7 @@ module _ (request : Request) (s : Scene) (legal : legalThere request s ≡ true)
   unfolding stateThere
   left-there part given = rw (accepted, same, legal)
 
-pub ends-as-meant : {request : Request} {s : Scene} {next : ℕ} {r : Returned} {after : List ℕ} → inRange request ≡ true → Fit (resting s next) → legalThere request s ≡ true
+pub ends-as-meant : {request : Request} {s : Scene} {next : ℕ} {r : Returned} {after : List ℕ} → inRange request ≡ true → Sound (resting s next) → legalThere request s ≡ true
     → ExchangeMeets request (s .board) (resting s next .place) (s .memory) r after
     → EndsAsMeant request s r after
 ends-as-meant {request} {s} {next} {r} {after} h f legal met =
@@ -95,7 +96,7 @@ read-legal Long a s = by-test (s .board .status .halted) (λ h. rw h) (λ h. rw 
 
 -- the READ that follows the WRITE ends in the value written
 pub write-is-read-back : {size : Size} {address value : ℕ} {s : Scene} {next : ℕ} {r q : Returned} {after last : List ℕ}
-    → inRange (Write size address value) ≡ true → Fit (resting s next) → present (s .memory) size address ≡ true
+    → inRange (Write size address value) ≡ true → Sound (resting s next) → present (s .memory) size address ≡ true
     → ExchangeMeets (Write size address value) (s .board) (resting s next .place) (s .memory) r after
     → ExchangeMeets (Read size address) (r .board) (r .place) after q last
     → q .answer ≡ Ended (Value value) (packetsThere (Read size address) (meaning (Write size address value) s .leaves))
@@ -103,7 +104,7 @@ write-is-read-back {size} {address} {value} {s} {next} {r} {q} {after} {last} h 
     let w : Request = Write size address value in
     let left : Scene = meaning w s .leaves in
     let written = ends-as-meant h f (write-legal size address value s) wrote in
-    let fit = left-fit w s next h (write-legal size address value s) f in
+    let sound = left-sound w s next h (write-legal size address value s) f in
     let asked : inRange (Read size address) ≡ true = and-left (dataInRange Long address) (dataInRange size value) h in
-    let again = ends-as-meant asked fit (read-legal size address left) (subst (λ (x : State). ExchangeMeets (Read size address) (x .board) (x .place) (x .memory) q last) (written .state) read) in
+    let again = ends-as-meant asked sound (read-legal size address left) (subst (λ (x : State). ExchangeMeets (Read size address) (x .board) (x .place) (x .memory) q last) (written .state) read) in
     again .answer ∙ ap (λ o. Ended o (packetsThere (Read size address) left)) (write-then-read size address value s h there .reads)

@@ -13,13 +13,13 @@ use Rattle.board.specs.declared.Board.{Board}
 use Rattle.board.specs.declared.Place.{Place}
 use Rattle.board.specs.Ranges.{inRange as stateInRange}
 use Rattle.port.specs.Run.{State, stateOf}
+use Rattle.port.specs.Sound.{Sound}
 use Rattle.requests.specs.declared.Request.{Request}
 use Rattle.requests.specs.declared.Reader.{Reader}
 use Rattle.requests.specs.declared.Reader.the-variants.{Closed}
 use Rattle.requests.specs.Request.{inRange}
 use Rattle.trip.specs.Exchange.{atRest, rested, restNops, restBudget, Talk, talk, exchanged, outcomeThere, stateThere, packetsThere}
-use Rattle.trip.specs.FitLaws.{Fit}
-use Rattle.trip.specs.RestLaws.{comes-to-rest, rest-keeps-fit, rest-nops-bound}
+use Rattle.trip.specs.RestLaws.{comes-to-rest, rest-keeps-sound, rest-nops-bound}
 use Rattle.trip.specs.ExchangeLaws.{exchange-comes-to, packets-bound}
 use Rattle.exchange.specs.declared.Exchanged.the-variants.{Ended}
 use Rattle.exchange.specs.Exchange.{answerOf, exchangeVerdict}
@@ -45,11 +45,11 @@ accepted-is-within request b p m e =
 
 -- ---- at rest
 pub record AtRest (s start : State) : Type 0 where
-  pub fit : Fit s
+  pub sound : Sound s
   pub rest : atRest (s .place .phase) ≡ true
 
-pub rested-is-at-rest : {s start : State} → Fit start → s ≡ rested restBudget start → AtRest s start
-rested-is-at-rest {s} {start} f e = record { fit = rw e (rest-keeps-fit restBudget start f); rest = ap (λ (x : State). atRest (x .place .phase)) e ∙ comes-to-rest f }
+pub rested-is-at-rest : {s start : State} → Sound start → s ≡ rested restBudget start → AtRest s start
+rested-is-at-rest {s} {start} f e = record { sound = rw e (rest-keeps-sound restBudget start f); rest = ap (λ (x : State). atRest (x .place .phase)) e ∙ comes-to-rest f }
 
 -- ---- sent and read
 pub record Conversed (request : Request) (b : Board) (p : Place) (m : List ℕ) (nops : ℕ) (reader : Reader) (s : State) (packets : ℕ) : Type 0 where
@@ -59,19 +59,19 @@ pub record Conversed (request : Request) (b : Board) (p : Place) (m : List ℕ) 
   pub fewNops : nops ≤ 20
 
 pub conversed : {request : Request} {b : Board} {p : Place} {m : List ℕ} {nops : ℕ} {reader : Reader} {start s : State} {packets : ℕ}
-    → Fit (stateOf b p m) → inRange request ≡ true
+    → Sound (stateOf b p m) → inRange request ≡ true
     → start ≡ rested restBudget (stateOf b p m) → nops ≡ restNops restBudget (stateOf b p m)
     → talk reader s packets ≡ exchanged request start
     → Conversed request b p m nops reader s packets
 conversed {request} {b} {p} {m} {nops} {reader} {start} {s} {packets} f h rest count talked =
     let there = restScene b p m in
-    let fit = rest-keeps-fit restBudget (stateOf b p m) f in
+    let sound = rest-keeps-sound restBudget (stateOf b p m) f in
     let whole : talk reader s packets ≡ talk (Closed (outcomeThere request there)) (stateThere request there) (packetsThere request there) =
-    talked ∙ ap (exchanged request) rest ∙ exchange-comes-to request h fit (comes-to-rest f) in
+    talked ∙ ap (exchanged request) rest ∙ exchange-comes-to request h sound (comes-to-rest f) in
     let number : packets ≡ packetsThere request there = ap (λ (t : Talk). t .packets) whole in
     record {
       answer = ap (λ (t : Talk). answerOf (t .reader) (nops + t .packets)) whole ∙ ap (λ n. Ended (outcomeThere request there) (n + packetsThere request there)) count;
       state = ap (λ (t : Talk). t .state) whole;
-      few = rw number (packets-bound request there (fit .setting));
+      few = rw number (packets-bound request there (sound .board .setting));
       fewNops = rw count (rest-nops-bound restBudget (stateOf b p m));
     }

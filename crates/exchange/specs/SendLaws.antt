@@ -14,13 +14,14 @@ use Rattle.port.specs.Promise.{PacketMeets}
 use Rattle.port.specs.PacketLaws.{accepted-takes-its-step, no-other}
 use Rattle.port.specs.Run.{stateOf, stepped}
 use Rattle.port.specs.RunLaws.{stepped-by}
+use Rattle.port.specs.Sound.{Sound}
+use Rattle.port.specs.SoundLaws.{sound-is-in-range}
 use Rattle.requests.specs.declared.Request.{Request}
 use Rattle.requests.specs.declared.Built.{Built}
 use Rattle.requests.specs.Request.{inRange}
 use Rattle.requests.specs.Words.{builtWords}
 use Rattle.requests.specs.CountLaws.{word-count-bound}
 use Rattle.requests.specs.Building.{BuildingMeets}
-use Rattle.trip.specs.FitLaws.{Fit, fit-is-in-range}
 
 pub record Sending (b : Board) (p : Place) (m : List ℕ) (word : ℕ) (r : Answer) (after : List ℕ) : Type 0 where
   pub unrefused : said (r .outcome) .refusal .number ≡ 0
@@ -28,9 +29,9 @@ pub record Sending (b : Board) (p : Place) (m : List ℕ) (word : ℕ) (r : Answ
   pub state : stateOf (r .board) (r .place) after ≡ stepped (stateOf b p m) word
 
 -- a word with C clear, from a state within all ranges
-pub fit-is-sent : {b : Board} {p : Place} {m : List ℕ} {word : ℕ} {r : Answer} {after : List ℕ} → Fit (stateOf b p m) → word ≤ 0xFFFF → PacketMeets b p m word r after → Sending b p m word r after
-fit-is-sent {b} {p} {m} {word} f clear met =
-    let step = accepted-takes-its-step met (no-other b p m word (fit-is-in-range f) (f .memory .limit) (omega arith)) in
+pub sound-is-sent : {b : Board} {p : Place} {m : List ℕ} {word : ℕ} {r : Answer} {after : List ℕ} → Sound (stateOf b p m) → word ≤ 0xFFFF → PacketMeets b p m word r after → Sending b p m word r after
+sound-is-sent {b} {p} {m} {word} f clear met =
+    let step = accepted-takes-its-step met (no-other b p m word (sound-is-in-range b p (f .board) (f .place)) (f .memory .limit) (omega arith)) in
     record { unrefused = step .unrefused; reply = step .reply; state = stepped-by b p m word (step .board) (step .place) (step .memory) }
 
 -- ---- a test turned round

@@ -14,9 +14,8 @@ use Rattle.board.specs.declared.Phase.{Phase}
 use Rattle.board.specs.declared.Phase.the-variants.{Rest, Due, Waiting, Low}
 use Rattle.board.specs.Ranges.{phaseInRange, bstatInRange, inRange}
 use Rattle.port.specs.Run.{stateOf}
-use Rattle.port.specs.Sound.{OperandsWithin, PhaseWithin}
+use Rattle.port.specs.Sound.{DebugWithin, OperandsWithin, PhaseWithin, Sound}
 use Rattle.requests.specs.WordLaws.{and-left, and-right}
-use Rattle.trip.specs.FitLaws.{Fit}
 
 -- operand words of 16 bits, addresses and data of 32
 abbrev pub PhaseTyped : Phase → Type 0
@@ -28,7 +27,7 @@ PhaseTyped (Low low) = low < 2 ^ 16
 pub record Typed (b : Board) (p : Place) (m : List ℕ) : Type 0 where
   pub general : AllBelow (2 ^ 32) (b .registers .general)
   pub control : AllBelow (2 ^ 32) (b .registers .control)
-  pub csr : b .debug .csr < 2 ^ 32
+  pub debug : DebugWithin (b .debug)
   pub phase : PhaseTyped (p .phase)
   pub bytes : AllBelow 256 m
 
@@ -41,9 +40,9 @@ phase-fits w (Waiting c left a v) h t =
 phase-fits w (Low low) h t = t
 
 -- with the ranges of 12 and of 3, all that a packet needs
-pub typed-is-fit : {b : Board} {p : Place} {m : List ℕ} → Typed b p m → inRange b p ≡ true → length m ≤ 65536 → Fit (stateOf b p m)
+pub typed-is-sound : {b : Board} {p : Place} {m : List ℕ} → Typed b p m → inRange b p ≡ true → length m ≤ 65536 → Sound (stateOf b p m)
 unfolding inRange
-typed-is-fit {b} {p} {m} t h limit =
+typed-is-sound {b} {p} {m} t h limit =
     let setting : Bool = leb (b .w) 15 in
     let phase : Bool = phaseInRange (b .w) (p .phase) in
     let next : Bool = leb (p .next) 0x1FFFF in
@@ -53,11 +52,14 @@ typed-is-fit {b} {p} {m} t h limit =
     let three = and-left (setting && phase && next) bstat four in
     let two = and-left (setting && phase) next three in
     record {
-      setting = leb-true (b .w) 15 (and-left setting phase two);
-      bstat = and-right (setting && phase && next) bstat four;
-      general = t .general;
-      control = t .control;
-      csr = t .csr;
+      board =
+          record {
+            setting = leb-true (b .w) 15 (and-left setting phase two);
+            bstat = and-right (setting && phase && next) bstat four;
+            general = t .general;
+            control = t .control;
+            debug = t .debug;
+          };
       place =
           record {
             phase = phase-fits (b .w) (p .phase) (and-right setting phase two) (t .phase);

@@ -3,9 +3,9 @@ ghost use mathlib.Core.Path.{_≡_};
 ghost use mathlib.Core.Bool.{true};
 ghost use Prim.Native.Nat.{_+_};
 ghost use Rattle.port.specs.Run.{stateOf};
+ghost use Rattle.port.specs.Sound.{Sound};
 ghost use Rattle.requests.specs.Request.{inRange};
 ghost use Rattle.trip.specs.Exchange.{outcomeThere, stateThere, packetsThere};
-ghost use Rattle.trip.specs.FitLaws.{Fit};
 ghost use Rattle.exchange.specs.declared.Exchanged.the-variants.{Ended};
 ghost use Rattle.exchange.specs.Exchange.{answerOf, exchangeVerdict};
 ghost use Rattle.exchange.specs.Typed.{PhaseTyped, Typed};
@@ -46,7 +46,7 @@ fn answer_of(reader: Reader, packets: u32) -> Exchanged
 }
 
 fn rest_and_converse(request: Request, board: Board, place: Place, memory: &mut [u8]) -> Returned
-    requires { ⌜ Fit (stateOf board place (now memory)) × (inRange request ≡ true) ⌝ }
+    requires { ⌜ Sound (stateOf board place (now memory)) × (inRange request ≡ true) ⌝ }
     ensures { λ r. ⌜ (r .answer ≡ Ended (outcomeThere request (restScene board place (now (memory .entry)))) (restPackets board place (now (memory .entry)) + packetsThere request (restScene board place (now (memory .entry))))) × (stateOf (r .board) (r .place) (now (memory .exit)) ≡ stateThere request (restScene board place (now (memory .entry)))) ⌝ }
 {
     let rested = talk::bring_to_rest(board, place, memory);

@@ -13,6 +13,7 @@ use Rattle.board.specs.declared.Phase.{Phase}
 use Rattle.board.specs.declared.Phase.the-variants.{Rest, Due, Waiting, Low}
 use Rattle.board.specs.declared.Place.{Place}
 use Rattle.board.specs.Ranges.{bstatInRange}
+use Rattle.port.specs.Run.{State}
 
 -- "32 bits each", "AATR keeps the low 16 bits, BAAR the low 8"
 pub record DebugWithin (d : Debug) : Type 0 where
@@ -57,3 +58,9 @@ pub record SoundPlace (w : ℕ) (p : Place) : Type 0 where
 pub record SoundMemory (m : List ℕ) : Type 0 where
   pub limit : length m ≤ 65536
   pub bytes : AllBelow 256 m
+
+-- all that a packet finds
+pub record Sound (s : State) : Type 0 where
+  pub board : SoundBoard (s .board)
+  pub place : SoundPlace (s .board .w) (s .place)
+  pub memory : SoundMemory (s .memory)

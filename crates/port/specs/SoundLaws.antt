@@ -30,7 +30,8 @@ use Rattle.plan.specs.Plan.{planOf}
 use Rattle.port.specs.Packets.{placeBy, boardBy, memoryBy, planFor, placeNext, boardNext, memoryNext}
 use Rattle.port.specs.SoundPlan.{PlanWithin, plan-within}
 use Rattle.port.specs.SoundWork.{work-keeps-memory, work-keeps-place}
-use Rattle.port.specs.Sound.{DebugWithin, SoundBoard, PhaseWithin, SoundPlace, SoundMemory}
+use Rattle.port.specs.Run.{State, stepped}
+use Rattle.port.specs.Sound.{DebugWithin, SoundBoard, PhaseWithin, SoundPlace, SoundMemory, Sound}
 
 -- ---- the board
 loaded : (k : ℕ) (t : Bool) (x y : ℕ) → x < k → y < k → cond t x y < k
@@ -170,6 +171,16 @@ packet-keeps-w b p word = by-plan (planFor b p word)
     by-plan Reject = refl
     by-plan (Release low) = refl
     by-plan (Work c a v) = work-keeps-w c b a v
+
+-- ---- a state
+pub packet-keeps-sound : {s : State} → Sound s → (word : ℕ) → Sound (stepped s word)
+unfolding stepped
+packet-keeps-sound {s} f word =
+    record {
+      board = packet-keeps-board (s .board) (s .place) (s .memory) (f .board) (f .place) (f .memory) word;
+      place = rw (packet-keeps-w (s .board) (s .place) word) (packet-keeps-place (s .board) (s .place) (s .memory) (f .board) (f .place) (f .memory) word);
+      memory = packet-keeps-memory (s .board) (s .place) (s .memory) (f .board) (f .place) (f .memory) word;
+    }
 
 -- ---- the ranges of 12
 phase-in-range : (w : ℕ) (phase : Phase) → PhaseWithin w phase → phaseInRange w phase ≡ true

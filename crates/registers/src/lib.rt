@@ -168,11 +168,11 @@ fn write_debug(debug: Debug, register: DebugRegister, value: u32) -> Debug
             d.csr = written_bits(value);
         }
         DebugRegister::Baar => {
-            d.baar = value % 256;
+            d.baar = (value % 256) as u8;
         }
         DebugRegister::Aatr => {
-            d.aatr = value % 65536;
-            d.baar = value % 256;
+            d.aatr = (value % 65536) as u16;
+            d.baar = (value % 256) as u8;
         }
         DebugRegister::Tdr => {
             d.tdr = value;

@@ -28,7 +28,7 @@ addressMatches level d address = level .eal && eqb address (d .ablr) || level .e
 
 -- "the attribute bits agree where AATR's upper byte has 0"
 unfoldable pub attributeAgrees : Debug → ℕ → Bool
-attributeAgrees d attribute = agree (d .aatr / 2 ^ 8 % 2 ^ 8) attribute (d .aatr % 2 ^ 8)
+attributeAgrees d attribute = agree (d .aatr / 2 ^ 8) attribute (d .aatr % 2 ^ 8)
 
 -- "agrees with DBR on its lanes where DBMR is 0": the other lanes are masked too
 abbrev pub dataAgrees : ℕ → Debug → Access → Bool

@@ -37,7 +37,11 @@ fn matches_address(level: Level, debug: Debug, address: u32) -> bool
 fn agrees_attribute(debug: Debug, attribute: u8) -> bool
     ensures { λ r. ⌜ r ≡ attributeAgrees debug attribute ⌝ }
 {
-    agrees(debug.aatr / 256 % 256, attribute as u32, debug.aatr % 256)
+    agrees(
+        (debug.aatr / 256) as u32,
+        attribute as u32,
+        (debug.aatr % 256) as u32,
+    )
 }
 
 fn compares(set: bool, lanes: u32, di: bool, debug: Debug, access: Access) -> bool

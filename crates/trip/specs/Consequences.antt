@@ -1,10 +1,12 @@
--- What follows from the round trip: more NOPs change nothing, and what is left is fit for the next request.
+-- What follows from the round trip: more NOPs change nothing, and what is left is sound for the next request.
 use Prim.Native.Nat.{ℕ, zero, suc, _+_, _-_}
 use mathlib.Core.Path.{_≡_, refl, ap, _∙_, subst}
 use mathlib.Core.Bool.{true}
 use mathlib.Core.List.{List, [], _∷_, _++_}
 use lib.ListN.{length}
 use Rattle.port.specs.Run.{State, stepped, ran, replies}
+use Rattle.port.specs.Sound.{Sound}
+use Rattle.port.specs.SoundLaws.{packet-keeps-sound}
 use Rattle.requests.specs.declared.Request.{Request}
 use Rattle.requests.specs.declared.Reading.the-variants.{Ended}
 use Rattle.requests.specs.declared.Reader.the-variants.{First}
@@ -18,8 +20,7 @@ use Rattle.trip.specs.Exchange.{nops, resting, legalThere, nopsAfter}
 use Rattle.trip.specs.Promise.{laterReplies}
 use Rattle.trip.specs.StepLaws.{nop-at-rest}
 use Rattle.trip.specs.RoundTrip.{legal-closes, round-trip}
-use Rattle.trip.specs.FitLaws.{Fit, fit-is-sized, packet-keeps-fit}
-use Rattle.trip.specs.WorkLaws.{Sized}
+use Rattle.trip.specs.WorkLaws.{Sized, sound-is-sized}
 
 -- ---- more NOPs
 ran-append : (xs ys : List ℕ) (s : State) → ran (xs ++ ys) s ≡ ran ys (ran xs s)
@@ -60,13 +61,13 @@ further-nops request s next n h l z =
     }
 
 -- ---- the next request
-pub run-keeps-fit : (words : List ℕ) (s : State) → Fit s → Fit (ran words s)
+pub run-keeps-sound : (words : List ℕ) (s : State) → Sound s → Sound (ran words s)
 unfolding ran
-run-keeps-fit [] s f = f
-run-keeps-fit (word ∷ words) s f = run-keeps-fit words (stepped s word) (packet-keeps-fit f word)
+run-keeps-sound [] s f = f
+run-keeps-sound (word ∷ words) s f = run-keeps-sound words (stepped s word) (packet-keeps-sound f word)
 
 -- a place that a request leaves is one that the next may find
-pub left-fit : (request : Request) (s : Scene) (next : ℕ) → inRange request ≡ true → legalThere request s ≡ true → Fit (resting s next) → Fit (resting (meaning request s .leaves) 0x0FFFF)
-left-fit request s next h l f =
+pub left-sound : (request : Request) (s : Scene) (next : ℕ) → inRange request ≡ true → legalThere request s ≡ true → Sound (resting s next) → Sound (resting (meaning request s .leaves) 0x0FFFF)
+left-sound request s next h l f =
     let words = builtWords request ++ nops (nopsAfter (s .board .w) request (meaning request s .outcome)) in
-    subst Fit (round-trip request s next h l (fit-is-sized f) .state) (run-keeps-fit words (resting s next) f)
+    subst Sound (round-trip request s next h l (sound-is-sized f) .state) (run-keeps-sound words (resting s next) f)

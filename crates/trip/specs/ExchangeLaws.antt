@@ -8,6 +8,7 @@ use mathlib.Core.List.{List, [], _∷_, _++_}
 use lib.ListN.{length, getD, length-append, length-replicate}
 use Rattle.port.specs.Packets.{replyNow}
 use Rattle.port.specs.Run.{State, stepped, ran, replies}
+use Rattle.port.specs.Sound.{Sound}
 use Rattle.requests.specs.declared.Request.{Request}
 use Rattle.requests.specs.declared.ResultKind.{ResultKind}
 use Rattle.requests.specs.declared.ResultKind.the-variants.{NoResult, OfSize}
@@ -25,9 +26,8 @@ use Rattle.requests.specs.CountLaws.{word-count-bound}
 use Rattle.trip.specs.Meaning.{Scene, meaning}
 use Rattle.trip.specs.Exchange.{nops, atRest, resting, sceneOf, talk, talked, talkBudget, exchanged, unchained, secondWord, legalThere, outcomeThere, stateThere, closingReplies, nopsAfter, packetsThere}
 use Rattle.trip.specs.ClosingLaws.{Closes}
-use Rattle.trip.specs.WorkLaws.{Sized}
+use Rattle.trip.specs.WorkLaws.{Sized, sound-is-sized}
 use Rattle.trip.specs.RoundTrip.{legal-closes, illegal-closes}
-use Rattle.trip.specs.FitLaws.{Fit, fit-is-sized}
 use Rattle.trip.specs.RestLaws.{waits-bound, rest-is-resting}
 use Rattle.trip.specs.StepLaws.{by-test}
 
@@ -112,12 +112,12 @@ module _ (request : Request) (s : Scene) (next : ℕ) (h : inRange request ≡ t
   unfolding stateThere packetsThere
   exchange-from-rest z small = by-test (legalThere request s) (λ l. rw l (legal-talk l z small)) (λ l. rw l (illegal-talk l))
 
-pub exchange-comes-to : (request : Request) {s : State} → inRange request ≡ true → Fit s → atRest (s .place .phase) ≡ true
+pub exchange-comes-to : (request : Request) {s : State} → inRange request ≡ true → Sound s → atRest (s .place .phase) ≡ true
     → exchanged request s ≡ talk (Closed (outcomeThere request (sceneOf s))) (stateThere request (sceneOf s)) (packetsThere request (sceneOf s))
 exchange-comes-to request {s} h f t =
     subst (λ (x : State). exchanged request x ≡ talk (Closed (outcomeThere request (sceneOf s))) (stateThere request (sceneOf s)) (packetsThere request (sceneOf s)))
     (sym (rest-is-resting s t))
-    (exchange-from-rest request (sceneOf s) (s .place .next) h (fit-is-sized f) (f .setting))
+    (exchange-from-rest request (sceneOf s) (s .place .next) h (sound-is-sized f) (f .board .setting))
 
 pub packets-bound : (request : Request) (s : Scene) → s .board .w ≤ 15 → packetsThere request s ≤ 22
 unfolding packetsThere

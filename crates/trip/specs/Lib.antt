@@ -6,7 +6,6 @@ pub mod WorkLaws
 pub mod MeantLaws
 pub mod Promise
 pub mod RoundTrip
-pub mod FitLaws
 pub mod RestLaws
 pub mod ExchangeLaws
 pub mod Underway

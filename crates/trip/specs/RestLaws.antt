@@ -22,11 +22,10 @@ use Rattle.plan.specs.declared.Plan.the-variants.{Hold, Reject, Release, Work}
 use Rattle.plan.specs.Plan.{withOperand, addressIn, valueIn, waitsOf, ready, collected, continued, planOf}
 use Rattle.port.specs.Packets.{placeBy, planFor, placeNext}
 use Rattle.port.specs.Run.{State, stateOf, stepped, ran}
-use Rattle.port.specs.Sound.{PhaseWithin}
-use Rattle.port.specs.SoundLaws.{packet-keeps-w}
+use Rattle.port.specs.Sound.{PhaseWithin, Sound}
+use Rattle.port.specs.SoundLaws.{packet-keeps-w, packet-keeps-sound}
 use Rattle.trip.specs.Exchange.{nops, atRest, resting, sceneOf, rested, restNops, restBudget}
 use Rattle.trip.specs.StepLaws.{by-test, waits-none, waits-more, due-none, due-more}
-use Rattle.trip.specs.FitLaws.{Fit, packet-keeps-fit}
 
 -- the most NOPs that a phase may still need
 abbrev pub left : ℕ → Phase → ℕ
@@ -70,7 +69,7 @@ plan-falls w (Waiting c n a v) halted chain h more = omega (arith, h .0, ready-l
 plan-falls w (Low low) halted chain h more = omega arith
 
 -- each NOP leaves less
-pub left-falls : {s : State} → Fit s → atRest (s .place .phase) ≡ false → left (s .board .w) (stepped s 0 .place .phase) < left (s .board .w) (s .place .phase)
+pub left-falls : {s : State} → Sound s → atRest (s .place .phase) ≡ false → left (s .board .w) (stepped s 0 .place .phase) < left (s .board .w) (s .place .phase)
 unfolding stepped placeNext planFor
 left-falls {s} f more =
     let b = s .board in
@@ -102,22 +101,22 @@ keeps-w : (s : State) (word : ℕ) → stepped s word .board .w ≡ s .board .w
 unfolding stepped
 keeps-w s word = packet-keeps-w (s .board) (s .place) word
 
-rests-within : (k : ℕ) (s : State) → Fit s → left (s .board .w) (s .place .phase) ≤ k → atRest (rested k s .place .phase) ≡ true
+rests-within : (k : ℕ) (s : State) → Sound s → left (s .board .w) (s .place .phase) ≤ k → atRest (rested k s .place .phase) ≡ true
 unfolding rested
 rests-within zero s f h = none-left (s .board .w) (s .place .phase) h
 rests-within (suc k) s f h =
     by-test (atRest (s .place .phase))
     (λ t. rw t t)
-    (λ t. rw t (rests-within k (stepped s 0) (packet-keeps-fit f 0) (rw (keeps-w s 0) (omega (arith, left-falls f t)))))
+    (λ t. rw t (rests-within k (stepped s 0) (packet-keeps-sound f 0) (rw (keeps-w s 0) (omega (arith, left-falls f t)))))
 
 -- the budget is enough
-pub comes-to-rest : {s : State} → Fit s → atRest (rested restBudget s .place .phase) ≡ true
-comes-to-rest {s} f = rests-within restBudget s f (left-bound (s .board .w) (s .place .phase) (f .setting) (f .place .phase))
+pub comes-to-rest : {s : State} → Sound s → atRest (rested restBudget s .place .phase) ≡ true
+comes-to-rest {s} f = rests-within restBudget s f (left-bound (s .board .w) (s .place .phase) (f .board .setting) (f .place .phase))
 
-pub rest-keeps-fit : (k : ℕ) (s : State) → Fit s → Fit (rested k s)
+pub rest-keeps-sound : (k : ℕ) (s : State) → Sound s → Sound (rested k s)
 unfolding rested
-rest-keeps-fit zero s f = f
-rest-keeps-fit (suc k) s f = by-test (atRest (s .place .phase)) (λ t. rw t f) (λ t. rw t (rest-keeps-fit k (stepped s 0) (packet-keeps-fit f 0)))
+rest-keeps-sound zero s f = f
+rest-keeps-sound (suc k) s f = by-test (atRest (s .place .phase)) (λ t. rw t f) (λ t. rw t (rest-keeps-sound k (stepped s 0) (packet-keeps-sound f 0)))
 
 pub rest-nops-bound : (k : ℕ) (s : State) → restNops k s ≤ k
 unfolding restNops

@@ -8,6 +8,8 @@ use mathlib.Core.List.{List, [], _∷_}
 use lib.ListN.{getD}
 use Rattle.port.specs.Packets.{replyNow}
 use Rattle.port.specs.Run.{State, stepped}
+use Rattle.port.specs.Sound.{Sound}
+use Rattle.port.specs.SoundLaws.{packet-keeps-sound}
 use Rattle.requests.specs.declared.Request.{Request}
 use Rattle.requests.specs.declared.Reader.{Reader}
 use Rattle.requests.specs.declared.Reader.the-variants.{First}
@@ -16,20 +18,19 @@ use Rattle.requests.specs.Words.{commandWord, builtWords}
 use Rattle.requests.specs.WordLaws.{Clear, built-clear}
 use Rattle.requests.specs.Replies.{fed, done}
 use Rattle.trip.specs.Exchange.{atRest, rested, restNops, restBudget, Talk, talk, talked, talkBudget, exchanged}
-use Rattle.trip.specs.FitLaws.{Fit, packet-keeps-fit}
 use Rattle.trip.specs.RestLaws.{comes-to-rest}
 use Rattle.trip.specs.ExchangeLaws.{exchange-comes-to}
 
 -- ---- bringing to rest: n NOPs are sent
 pub record RestUnderway (n : ℕ) (s start : State) : Type 0 where
   pub within : n ≤ restBudget
-  pub fit : Fit s
+  pub sound : Sound s
   pub state : rested (restBudget - n) s ≡ rested restBudget start
   pub count : n + restNops (restBudget - n) s ≡ restNops restBudget start
   pub rests : atRest (rested restBudget start .place .phase) ≡ true
 
-pub rest-begins : {s : State} → Fit s → RestUnderway 0 s s
-rest-begins {s} f = record { within = omega arith; fit = f; state = refl; count = omega arith; rests = comes-to-rest f }
+pub rest-begins : {s : State} → Sound s → RestUnderway 0 s s
+rest-begins {s} f = record { within = omega arith; sound = f; state = refl; count = omega arith; rests = comes-to-rest f }
 
 -- while the place is not at rest the budget is not used up
 more-to-rest : (k : ℕ) (s : State) → atRest (s .place .phase) ≡ false → atRest (rested k s .place .phase) ≡ true → 1 ≤ k
@@ -49,7 +50,7 @@ rest-goes-on {n} {s} {start} u t =
     let next = rest-more k s t in
     record {
       within = omega arith;
-      fit = packet-keeps-fit (u .fit) 0;
+      sound = packet-keeps-sound (u .sound) 0;
       state = sym (next .0) ∙ (rw budget at (u .state));
       count = omega (arith, next .1, rw budget at (u .count));
       rests = u .rests;
@@ -72,12 +73,12 @@ fromCommand request s = talked talkBudget request 1 First s
 pub record TalkUnderway (request : Request) (sent : ℕ) (reader : Reader) (s start : State) : Type 0 where
   pub begun : 1 ≤ sent
   pub within : sent ≤ talkBudget + 1
-  pub fit : Fit s
+  pub sound : Sound s
   pub talk : talked (talkBudget + 1 - sent) request sent reader s ≡ fromCommand request start
   pub closes : done (fromCommand request start .reader) ≡ true
 
-pub talk-begins : {request : Request} {s : State} → Fit s → done (fromCommand request s .reader) ≡ true → TalkUnderway request 1 First s s
-talk-begins f h = record { begun = omega arith; within = omega arith; fit = f; talk = refl; closes = h }
+pub talk-begins : {request : Request} {s : State} → Sound s → done (fromCommand request s .reader) ≡ true → TalkUnderway request 1 First s s
+talk-begins f h = record { begun = omega arith; within = omega arith; sound = f; talk = refl; closes = h }
 
 more-to-say : (k : ℕ) (request : Request) (sent : ℕ) (reader : Reader) (s : State) → done reader ≡ false → done (talked k request sent reader s .reader) ≡ true → 1 ≤ k
 unfolding talked
@@ -98,7 +99,7 @@ talk-goes-on {request} {sent} {reader} {s} u t =
     record {
       begun = omega arith;
       within = omega arith;
-      fit = packet-keeps-fit (u .fit) (getD (builtWords request) sent 0);
+      sound = packet-keeps-sound (u .sound) (getD (builtWords request) sent 0);
       talk = ap (λ i. talked k request i (fed (kindOf request) reader (replyNow (s .place))) (stepped s (getD (builtWords request) sent 0))) (add-one sent) ∙ sym (talk-more k request sent reader s t) ∙ (rw budget at (u .talk));
       closes = u .closes;
     }
@@ -112,8 +113,8 @@ pub talk-is-closed : {request : Request} {sent : ℕ} {reader : Reader} {s start
     → talk reader s sent ≡ fromCommand request start
 talk-is-closed {request} {sent} {reader} {s} u t = sym (talk-stays (talkBudget + 1 - sent) request sent reader s t) ∙ u .talk
 
--- a request in range, from a fit state at rest, closes
-pub exchange-closes : (request : Request) {s : State} → inRange request ≡ true → Fit s → atRest (s .place .phase) ≡ true
+-- a request in range, from a sound state at rest, closes
+pub exchange-closes : (request : Request) {s : State} → inRange request ≡ true → Sound s → atRest (s .place .phase) ≡ true
     → done (fromCommand request (stepped s (commandWord request)) .reader) ≡ true
 unfolding exchanged
 exchange-closes request h f t = rw (exchange-comes-to request h f t)

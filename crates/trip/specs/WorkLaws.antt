@@ -22,6 +22,8 @@ use Rattle.work.specs.declared.Access.the-variants.{Fetched, Missing}
 use Rattle.work.specs.declared.Ending.{Ending}
 use Rattle.work.specs.Access.{past, fetching, startOf, accessOf, memoryAfter, pointerAfter}
 use Rattle.work.specs.Work.{accessEnding, endingOf, chainBy, chainAfter}
+use Rattle.port.specs.Run.{State}
+use Rattle.port.specs.Sound.{Sound}
 use Rattle.registers.specs.Csr.{flag, csrValue}
 use Rattle.registers.specs.Registers.{controlPlace, controlListed, controlFetched, withControl, withDebugWritten, debugNumber, boardAfter}
 use Rattle.requests.specs.declared.Request.the-variants.{Wdmreg}
@@ -31,6 +33,7 @@ use Rattle.requests.specs.declared.Outcome.the-variants.{Value}
 use Rattle.requests.specs.Meant.{debugRows}
 use Rattle.requests.specs.CountLaws.{found-has}
 use Rattle.trip.specs.Meaning.{Scene, Meaning, meaning, reads, writes, readsControl, writesControl}
+use Rattle.trip.specs.Exchange.{sceneOf}
 use Rattle.trip.specs.ClosingLaws.{outcomeOf, Fits}
 use Rattle.trip.specs.StepLaws.{by-test}
 
@@ -52,6 +55,9 @@ pub record Sized (s : Scene) : Type 0 where
   pub bytes : AllBelow 256 (s .memory)
   pub general : AllBelow (2 ^ 32) (s .board .registers .general)
   pub control : AllBelow (2 ^ 32) (s .board .registers .control)
+
+pub sound-is-sized : {s : State} → Sound s → Sized (sceneOf s)
+sound-is-sized f = record { bytes = f .memory .bytes; general = f .board .general; control = f .board .control }
 
 pub record Meant (c : Command) (address value : ℕ) (kind : ResultKind) (s : Scene) (m : Meaning) : Type 0 where
   -- the ending is the outcome meant

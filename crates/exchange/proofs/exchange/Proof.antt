@@ -1,7 +1,7 @@
 use mathlib.Core.Path.{sym, ap, _∙_}
 use Rattle.port.specs.Run.{State}
 use Rattle.exchange.specs.Exchange.{toldExchange}
-use Rattle.exchange.specs.Typed.{typed-is-fit}
+use Rattle.exchange.specs.Typed.{typed-is-sound}
 use Rattle.exchange.specs.ConverseLaws.{accepted-is-within}
 use borrow.Author.Needs.{needs}
 use Rattle.exchange.proofs.exchange.Statement.{statement}
@@ -17,7 +17,7 @@ enum-told : tie.Need-enum-told
 enum-told c = search needs
 
 rest-and-converse-requires : tie.Need-rest-and-converse-requires
-rest-and-converse-requires c κs = let accepted = sym (c .before .before .before .judge-exchange .ensures) ∙ c .before .enum-told .given .1 in let at = c .before .before .before .before .before .before .before .before .args in let within = accepted-is-within (at .request) (at .board) (at .place) (at .memory .now) accepted in (typed-is-fit (c .before .before .before .before .before .note-types .ensures) (within .state) (within .memory), within .asked)
+rest-and-converse-requires c κs = let accepted = sym (c .before .before .before .judge-exchange .ensures) ∙ c .before .enum-told .given .1 in let at = c .before .before .before .before .before .before .before .before .args in let within = accepted-is-within (at .request) (at .board) (at .place) (at .memory .now) accepted in (typed-is-sound (c .before .before .before .before .before .note-types .ensures) (within .state) (within .memory), within .asked)
 
 enum-known-ground : tie.Need-enum-known-ground
 enum-known-ground c = search needs

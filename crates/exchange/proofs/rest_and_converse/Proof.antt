@@ -9,7 +9,7 @@ bring-to-rest-requires : tie.Need-bring-to-rest-requires
 bring-to-rest-requires c κs = search needs
 
 converse-requires : tie.Need-converse-requires
-converse-requires c κs = let rest = rested-is-at-rest (c .before .before .before .before .before .before .before .before .pre .0) (c .before .before .before .before .before .bring-to-rest .ensures .0) in (rest .fit, c .before .before .before .before .before .before .before .before .pre .1, rest .rest)
+converse-requires c κs = let rest = rested-is-at-rest (c .before .before .before .before .before .before .before .before .pre .0) (c .before .before .before .before .before .bring-to-rest .ensures .0) in (rest .sound, c .before .before .before .before .before .before .before .before .pre .1, rest .rest)
 
 cast-answer-of : tie.Need-cast-answer-of
 cast-answer-of c = omega (arith, conversed (c .before .before .before .before .before .before .before .before .before .before .before .before .before .before .pre .0) (c .before .before .before .before .before .before .before .before .before .before .before .before .before .before .pre .1) (c .before .before .before .before .before .before .before .before .before .before .before .bring-to-rest .ensures .0) (c .before .before .before .before .before .before .before .before .before .before .before .bring-to-rest .ensures .1) (c .before .before .before .before .before .converse .ensures) .few)

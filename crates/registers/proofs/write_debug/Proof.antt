@@ -12,8 +12,17 @@ written-bits-requires c κs = search needs
 enum-told-2 : tie.Need-enum-told-2
 enum-told-2 c = search needs
 
+cast-d : tie.Need-cast-d
+cast-d c = search needs
+
 enum-told-3 : tie.Need-enum-told-3
 enum-told-3 c = search needs
+
+cast-d-2 : tie.Need-cast-d-2
+cast-d-2 c = search needs
+
+cast-d-3 : tie.Need-cast-d-3
+cast-d-3 c = search needs
 
 enum-told-4 : tie.Need-enum-told-4
 enum-told-4 c = search needs
@@ -83,7 +92,10 @@ write-debug-spec =
     enum-told
     written-bits-requires
     enum-told-2
+    cast-d
     enum-told-3
+    cast-d-2
+    cast-d-3
     enum-told-4
     enum-told-5
     enum-told-6

@@ -35,8 +35,14 @@ array-write-values-3 c = search needs
 array-write-values-4 : tie.Need-array-write-values-4 Inv-loop μ-loop Inv-loop2 μ-loop2
 array-write-values-4 c = search needs
 
+cast-values : tie.Need-cast-values Inv-loop μ-loop Inv-loop2 μ-loop2
+cast-values c = search needs
+
 array-write-values-5 : tie.Need-array-write-values-5 Inv-loop μ-loop Inv-loop2 μ-loop2
 array-write-values-5 c = search needs
+
+cast-values-2 : tie.Need-cast-values-2 Inv-loop μ-loop Inv-loop2 μ-loop2
+cast-values-2 c = search needs
 
 array-write-values-6 : tie.Need-array-write-values-6 Inv-loop μ-loop Inv-loop2 μ-loop2
 array-write-values-6 c = search needs
@@ -136,7 +142,9 @@ values-of-spec =
     csr-of-requires
     array-write-values-3
     array-write-values-4
+    cast-values
     array-write-values-5
+    cast-values-2
     array-write-values-6
     array-write-values-7
     array-write-values-8

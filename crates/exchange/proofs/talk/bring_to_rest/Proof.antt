@@ -23,7 +23,7 @@ is-resting-requires : tie.Need-is-resting-requires Inv-loop μ-loop
 is-resting-requires c κs = search needs
 
 send-requires : tie.Need-send-requires Inv-loop μ-loop
-send-requires c κs = (c .before .before .before .loop .inv .1 .fit, omega arith)
+send-requires c κs = (c .before .before .before .loop .inv .1 .sound, omega arith)
 
 add-n : tie.Need-add-n Inv-loop μ-loop
 add-n c = omega (arith, c .before .before .before .before .before .before .before .before .loop .inv .1 .within)

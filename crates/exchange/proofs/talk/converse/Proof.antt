@@ -1,8 +1,8 @@
 use mathlib.Core.Path.{ap, _∙_}
 use Rattle.port.specs.Run.{stateOf, stepped}
+use Rattle.port.specs.SoundLaws.{packet-keeps-sound}
 use Rattle.requests.specs.Words.{commandWord}
 use Rattle.trip.specs.Exchange.{exchanged}
-use Rattle.trip.specs.FitLaws.{packet-keeps-fit}
 use Rattle.trip.specs.Underway.{fromCommand, sent-clear, exchange-closes}
 use Rattle.exchange.specs.SendLaws.{built-then-nops}
 use borrow.Author.Needs.{needs}
@@ -25,7 +25,7 @@ slice-aggregate-read-on : tie.Need-slice-aggregate-read-on
 slice-aggregate-read-on c = search needs
 
 read-on-requires : tie.Need-read-on-requires
-read-on-requires c κs = let at = c .before .before .before .before .before .before .before .before .before .before .before .before .args in let pre = c .before .before .before .before .before .before .before .before .before .before .before .before .pre in let words = built-then-nops (c .before .before .before .before .before .before .before .before .before .build .ensures) (pre .1) in let sent = c .before .before .before .before .before .before .send .ensures .1 ∙ ap (stepped (stateOf (at .board) (at .place) (at .memory .now))) (words 0) in (rw sent (packet-keeps-fit (pre .0) (commandWord (at .request))), pre .1, rw sent (exchange-closes (at .request) (pre .1) (pre .0) (pre .2)), words)
+read-on-requires c κs = let at = c .before .before .before .before .before .before .before .before .before .before .before .before .args in let pre = c .before .before .before .before .before .before .before .before .before .before .before .before .pre in let words = built-then-nops (c .before .before .before .before .before .before .before .before .before .build .ensures) (pre .1) in let sent = c .before .before .before .before .before .before .send .ensures .1 ∙ ap (stepped (stateOf (at .board) (at .place) (at .memory .now))) (words 0) in (rw sent (packet-keeps-sound (pre .0) (commandWord (at .request))), pre .1, rw sent (exchange-closes (at .request) (pre .1) (pre .0) (pre .2)), words)
 
 same-length : tie.Need-same-length
 same-length c = search needs

@@ -26,7 +26,7 @@ word-at-requires : tie.Need-word-at-requires Inv-loop μ-loop
 word-at-requires c κs = search needs
 
 send-requires : tie.Need-send-requires Inv-loop μ-loop
-send-requires c κs = (c .before .before .before .before .loop .inv .1 .fit, rw (c .before .word-at .ensures ∙ c .before .before .before .before .before .before .before .pre .3 (c .before .before .before .before .loop .packets)) (sent-clear (c .before .before .before .before .before .before .before .args .request) (c .before .before .before .before .loop .packets) (c .before .before .before .before .before .before .before .pre .1)))
+send-requires c κs = (c .before .before .before .before .loop .inv .1 .sound, rw (c .before .word-at .ensures ∙ c .before .before .before .before .before .before .before .pre .3 (c .before .before .before .before .loop .packets)) (sent-clear (c .before .before .before .before .before .before .before .args .request) (c .before .before .before .before .loop .packets) (c .before .before .before .before .before .before .before .pre .1)))
 
 kind-of-requires : tie.Need-kind-of-requires Inv-loop μ-loop
 kind-of-requires c κs = search needs

@@ -3,6 +3,12 @@ use borrow.Author.Needs.{needs}
 use Rattle.trigger.proofs.groups.agrees_attribute.Statement.{statement}
 use Rattle.trigger.proofs.groups.agrees_attribute.Tie as tie
 
+cast-agrees : tie.Need-cast-agrees
+cast-agrees c = search needs
+
+cast-agrees-2 : tie.Need-cast-agrees-2
+cast-agrees-2 c = search needs
+
 agrees-requires : tie.Need-agrees-requires
 agrees-requires c κs = search needs
 
@@ -11,4 +17,4 @@ unfolding attributeAgrees
 returns c = rw (← c .agrees .ensures)
 
 pub agrees-attribute-spec : {M : Type 1} → statement M
-agrees-attribute-spec = tie.close (tie.spec agrees-requires returns)
+agrees-attribute-spec = tie.close (tie.spec cast-agrees cast-agrees-2 agrees-requires returns)
