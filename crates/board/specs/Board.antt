@@ -1,6 +1,6 @@
 -- The board and its parts (01): making a board.
 use Prim.Native.Nat.{ℕ}
-use mathlib.Core.Bool.{true, false, cond}
+use mathlib.Core.Bool.{Bool, true, false, cond}
 use mathlib.Core.List.{[], _∷_}
 use lib.Dec.{leb}
 use lib.ListN.{replicate}
@@ -12,7 +12,8 @@ use Rattle.grounds.specs.GroundLaws.{told-once}
 use Rattle.board.specs.declared.Board.{Board}
 use Rattle.board.specs.declared.Place.{Place}
 use Rattle.board.specs.declared.Made.{Made}
-use Rattle.board.specs.declared.Phase.the-variants.{Rest}
+use Rattle.board.specs.declared.Phase.{Phase}
+use Rattle.board.specs.declared.Phase.the-variants.{Rest, Due, Waiting, Low}
 use Rattle.board.specs.declared.Chain.the-variants.{Off}
 
 -- "A fresh board is halted with CSR[BKPT] set, at rest, next reply 0x0FFFF, AATR 0x0005, BAAR 0x05, all else zero"
@@ -26,6 +27,13 @@ freshBoard w = record {
 
 unfoldable pub freshPlace : Place
 freshPlace = record { phase = Rest; chain = Off; pointer = 0; next = 0x0FFFF }
+
+-- "at rest"
+abbrev pub atRest : Phase → Bool
+atRest Rest = true
+atRest (Due c left taken) = false
+atRest (Waiting c left address value) = false
+atRest (Low low) = false
 
 -- "A board is made with a wait setting W from 0 to 15." "Order: making 2"
 abbrev pub makingVerdict : ℕ → Verdict

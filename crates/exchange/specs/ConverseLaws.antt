@@ -1,5 +1,6 @@
 -- Laws of the exchange in code: brought to rest, sent and read, it answers as promised.
 use Prim.Native.Nat.{ℕ, _+_, _≤_}
+use native.Mathlib.Omega.{arith}
 use mathlib.Core.Path.{_≡_, refl, ap, _∙_}
 use mathlib.Core.Bool.{Bool, true, false}
 use mathlib.Core.List.{List, [], _∷_}
@@ -11,6 +12,7 @@ use Rattle.grounds.specs.declared.Verdict.the-variants.{Accepted}
 use Rattle.grounds.specs.Grounds.{check, judge}
 use Rattle.board.specs.declared.Board.{Board}
 use Rattle.board.specs.declared.Place.{Place}
+use Rattle.board.specs.Board.{atRest}
 use Rattle.board.specs.Ranges.{inRange as stateInRange}
 use Rattle.port.specs.Run.{State, stateOf}
 use Rattle.port.specs.Sound.{Sound}
@@ -18,7 +20,7 @@ use Rattle.requests.specs.declared.Request.{Request}
 use Rattle.requests.specs.declared.Reader.{Reader}
 use Rattle.requests.specs.declared.Reader.the-variants.{Closed}
 use Rattle.requests.specs.Request.{inRange}
-use Rattle.trip.specs.Exchange.{atRest, rested, restNops, restBudget, Talk, talk, exchanged, outcomeThere, stateThere, packetsThere}
+use Rattle.trip.specs.Exchange.{rested, restNops, restBudget, Talk, talk, exchanged, outcomeThere, stateThere, packetsThere}
 use Rattle.trip.specs.RestLaws.{comes-to-rest, rest-keeps-sound, rest-nops-bound}
 use Rattle.trip.specs.ExchangeLaws.{exchange-comes-to, packets-bound}
 use Rattle.exchange.specs.declared.Exchanged.the-variants.{Ended}
@@ -56,7 +58,7 @@ pub record Conversed (request : Request) (b : Board) (p : Place) (m : List ℕ) 
   pub answer : answerOf reader (nops + packets) ≡ Ended (outcomeThere request (restScene b p m)) (restPackets b p m + packetsThere request (restScene b p m))
   pub state : s ≡ stateThere request (restScene b p m)
   pub few : packets ≤ 22
-  pub fewNops : nops ≤ 20
+  pub fewNops : nops ≤ restBudget
 
 pub conversed : {request : Request} {b : Board} {p : Place} {m : List ℕ} {nops : ℕ} {reader : Reader} {start s : State} {packets : ℕ}
     → Sound (stateOf b p m) → inRange request ≡ true
@@ -73,5 +75,5 @@ conversed {request} {b} {p} {m} {nops} {reader} {start} {s} {packets} f h rest c
       answer = ap (λ (t : Talk). answerOf (t .reader) (nops + t .packets)) whole ∙ ap (λ n. Ended (outcomeThere request there) (n + packetsThere request there)) count;
       state = ap (λ (t : Talk). t .state) whole;
       few = rw number (packets-bound request there (sound .board .setting));
-      fewNops = rw count (rest-nops-bound restBudget (stateOf b p m));
+      fewNops = rw count (omega (arith, rest-nops-bound restBudget f, f .board .setting));
     }

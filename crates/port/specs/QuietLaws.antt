@@ -34,7 +34,7 @@ board-left (Show source.Csr) b address value e = cc
 board-left (Change target) b address value e = cc
 
 -- a NOP is legal whatever the chain and whether the processor runs, and works at once
-nop-plan : (halted : Bool) (chain : Chain) (w : ℕ) → planOf Rest halted chain w 0 ≡ Work Nop 0 0
+pub nop-plan : (halted : Bool) (chain : Chain) (w : ℕ) → planOf Rest halted chain w 0 ≡ Work Nop 0 0
 unfolding begun collected ready decoded decodedWord
 nop-plan true chain w = refl
 nop-plan false chain w = refl

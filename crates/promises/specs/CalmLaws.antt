@@ -15,8 +15,8 @@ use Rattle.plan.specs.declared.Plan.{Plan}
 use Rattle.plan.specs.declared.Plan.the-variants.{Hold, Reject, Release, Work}
 use Rattle.plan.specs.Plan.{carriesC, addressIn, valueIn, withOperand, ready, waitsOf, collected, continued, planOf}
 use Rattle.port.specs.Sound.{PhaseWithin}
+use Rattle.port.specs.QuietLaws.{nop-plan}
 use Rattle.memory.specs.MemoryLaws.{either}
-use Rattle.promises.specs.NopLaws.{nop-at-rest}
 
 -- a command whose work does not read the status: any but RDMREG
 abbrev pub Calm : Command → Type 0
@@ -46,14 +46,14 @@ continued-calm c left t w word h =
     (λ z. tt))
 
 pub nop-calm : (w : ℕ) (phase : Phase) (halted : Bool) (chain : Chain) → PhaseWithin w phase → PlanCalm (planOf phase halted chain w 0)
-nop-calm w Rest halted chain h = rw (nop-at-rest halted chain w) (λ e. let z : _≡_ {A = ℕ} 0 1 = cc in omega arith)
+nop-calm w Rest halted chain h = rw (nop-plan halted chain w) (λ e. let z : _≡_ {A = ℕ} 0 1 = cc in omega arith)
 nop-calm w (Due c left t) halted chain h = continued-calm c left t w 0 (calm c (omega (arith, h .0, h .1)))
 nop-calm w (Waiting c left address value) halted chain h = ready-calm (left - 1) c address value (calm c (rw (h .2) (omega arith)))
 nop-calm w (Low low) halted chain h = tt
 
 -- a NOP is taken for the same, halted or running
 pub nop-halted-or-not : (w : ℕ) (phase : Phase) (halted other : Bool) (chain : Chain) → planOf phase halted chain w 0 ≡ planOf phase other chain w 0
-nop-halted-or-not w Rest halted other chain = nop-at-rest halted chain w ∙ sym (nop-at-rest other chain w)
+nop-halted-or-not w Rest halted other chain = nop-plan halted chain w ∙ sym (nop-plan other chain w)
 nop-halted-or-not w (Due c left t) halted other chain = refl
 nop-halted-or-not w (Waiting c left address value) halted other chain = refl
 nop-halted-or-not w (Low low) halted other chain = refl

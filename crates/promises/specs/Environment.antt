@@ -2,13 +2,11 @@
 -- events and breakpoint inputs between its packets and the memory lent with each; with several, the others' packets too.
 use Prim.Native.Nat.{ℕ, suc, _+_, _≤_}
 use mathlib.Core.Path.{_≡_}
-use mathlib.Core.Bool.{Bool, true, false, cond}
+use mathlib.Core.Bool.{cond}
 use mathlib.Core.List.{List, [], _∷_, _++_}
 use Rattle.board.specs.declared.Board.{Board}
 use Rattle.board.specs.declared.Place.{Place}
-use Rattle.board.specs.declared.Phase.{Phase}
-use Rattle.board.specs.declared.Phase.the-variants.{Rest, Due, Waiting, Low}
-use Rattle.board.specs.Board.{freshPlace}
+use Rattle.board.specs.Board.{freshPlace, atRest}
 use Rattle.port.specs.Sound.{SoundBoard, SoundMemory}
 use Rattle.promises.specs.Machine.{Machine}
 use Rattle.promises.specs.Words.{Word, Stage, stage}
@@ -19,12 +17,6 @@ pub record Found : Type 0 where
   pub board : Board
   pub memory : List ℕ
   pub word : ℕ
-
-abbrev pub isRest : Phase → Bool
-isRest Rest = true
-isRest (Due c left taken) = false
-isRest (Waiting c left address value) = false
-isRest (Low low) = false
 
 -- a place with its command words and their closing replies so far, the last first in both
 pub record Trail : Type 0 where
@@ -124,7 +116,7 @@ handed k p (f ∷ fs) =
 -- how many of the packets find the port not at rest
 unfoldable pub underWay : Machine → Place → List Found → ℕ
 underWay k p [] = 0
-underWay k p (f ∷ fs) = cond (isRest (p .phase)) 0 1 + underWay k (k .place (f .board) p (f .memory) (f .word)) fs
+underWay k p (f ∷ fs) = cond (atRest (p .phase)) 0 1 + underWay k (k .place (f .board) p (f .memory) (f .word)) fs
 
 -- a board made with W, its registers within their widths
 pub record BoardOf (w : ℕ) (b : Board) : Type 0 where

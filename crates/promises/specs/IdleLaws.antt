@@ -8,12 +8,13 @@ use Rattle.grounds.specs.declared.Verdict.the-variants.{Accepted}
 use Rattle.board.specs.declared.Board.{Board}
 use Rattle.board.specs.declared.Place.{Place}
 use Rattle.board.specs.declared.Status.{Status}
+use Rattle.board.specs.Board.{atRest}
 use Rattle.registers.specs.Registers.{withStatus}
 use Rattle.port.specs.Packets.{packetVerdict, replyNow, placeNext, boardNext, memoryNext}
 use Rattle.bus.specs.Events.{boardAfterEvent, boardAfterBreakpoint}
 use Rattle.bus.specs.EventLaws.{event-changes-status-alone, breakpoint-changes-status-alone}
 use Rattle.promises.specs.Machine.{State, standIn}
-use Rattle.promises.specs.Environment.{isRest, Handed, handed, underWay, AllNops}
+use Rattle.promises.specs.Environment.{Handed, handed, underWay, AllNops}
 use Rattle.promises.specs.History.{Lent, Call, taking, afterCall, after, finds, Idle, nops}
 use Rattle.promises.specs.History.Call.{packet, event, breakpoint}
 use Rattle.promises.specs.History.Idle.{none, nop, withEvent, withBreakpoint}
@@ -86,7 +87,7 @@ module _ (w : ℕ) where
       let taken : packetVerdict (s .board) (s .place) (m .bytes) 0 ≡ Accepted = accepted s hs m limit in
       let too : packetVerdict (r .board) (r .place) (m .bytes) 0 ≡ Accepted = accepted r hr m limit in
       record {
-        number = rw (taken, too) (ap₂ (λ (p : Place) (n : ℕ). cond (isRest (p .phase)) 0 1 + n) (alike .place) (next .number));
+        number = rw (taken, too) (ap₂ (λ (p : Place) (n : ℕ). cond (atRest (p .phase)) 0 1 + n) (alike .place) (next .number));
         ends = subst₂ Alike (sym (nop-after s hs m limit cs)) (sym (nop-after r hr m limit (nops ns))) (next .ends);
         hands =
             rw (taken, too)

@@ -4,8 +4,6 @@ pub mod Environment
 pub mod History
 pub mod Promises
 pub mod FitLaws
-pub mod ToGo
-pub mod NopLaws
 pub mod OperandLaws
 pub mod StageLaws
 pub mod ClosingLaws

@@ -5,8 +5,9 @@ use mathlib.Core.List.{List}
 use lib.ListN.{length}
 use native.Mathlib.Omega.{arith}
 use Rattle.board.specs.declared.Place.{Place}
+use Rattle.board.specs.Board.{atRest}
 use Rattle.promises.specs.Machine.{State, standIn}
-use Rattle.promises.specs.Environment.{isRest, Trail, begun, AllFit, AllNops}
+use Rattle.promises.specs.Environment.{Trail, begun, AllFit, AllNops}
 use Rattle.promises.specs.History.{Lent, Call, after, finds, made, Idle}
 use Rattle.promises.specs.Promises.{PlaceRests, NopsBring, trailOf, NeverStranded, ClosingReplies, Demand3, PlaceDemand3}
 use Rattle.port.specs.Sound.{SoundPlace}
@@ -38,7 +39,7 @@ module _ (w : ℕ) (small : w ≤ 15) (history : List Call) where
       place-rests-from w t (finds standIn s idle) (nops .0) (kept-from-fresh w (finds standIn (made w) history) found) (subst (SoundPlace w) here (reached .place)) in
       record {
         accepted = nops .1;
-        enough = λ l. ap (λ (p : Place). isRest (p .phase)) (place-of-trail s t idle here) ∙ brought .enough (omega (arith, nops .1));
+        enough = λ l. ap (λ (p : Place). atRest (p .phase)) (place-of-trail s t idle here) ∙ brought .enough (omega (arith, nops .1));
         brought = brought;
         unmoved = idle-unmoved w s ms idle i reached;
       }

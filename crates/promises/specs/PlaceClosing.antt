@@ -6,14 +6,14 @@ use mathlib.Core.List.{List, [], _∷_, map}
 use Rattle.board.specs.declared.Place.{Place}
 use Rattle.board.specs.declared.Phase.{Phase}
 use Rattle.board.specs.declared.Phase.the-variants.{Rest, Due, Waiting, Low}
-use Rattle.board.specs.Board.{freshPlace}
+use Rattle.board.specs.Board.{freshPlace, atRest}
 use Rattle.plan.specs.Plan.{noOperands}
 use Rattle.port.specs.Packets.{replyIn, replyNow}
 use Rattle.promises.specs.Machine.{standIn}
 use Rattle.promises.specs.Words.{Word, Stage, stage, closing, closingAt, replyAt, isClosed}
 use Rattle.promises.specs.Words.Closing.{reply}
 use Rattle.promises.specs.Words.Stage.{operandDue, waitDue, upperDue, closed}
-use Rattle.promises.specs.Environment.{Found, isRest, Trail, heardAt, heard, givenAt, givenBy, noted, trail, begun, AllFit}
+use Rattle.promises.specs.Environment.{Found, Trail, heardAt, heard, givenAt, givenBy, noted, trail, begun, AllFit}
 use Rattle.promises.specs.Promises.{nextReply, lastClosed, earlier, PlaceCloses}
 use Rattle.promises.specs.Environment.AllFit.{none, more}
 use Rattle.promises.specs.OperandLaws.{held}
@@ -31,7 +31,7 @@ module _ (w : ℕ) where
   told-next (Low low) next [] h = absurd h
   told-next (Low low) next (o ∷ os) h = rw (h .0)
 
-  told-rest : (phase : Phase) (next : ℕ) (os : List Word) → Tells w phase next os → isRest phase ≡ lastClosed os
+  told-rest : (phase : Phase) (next : ℕ) (os : List Word) → Tells w phase next os → atRest phase ≡ lastClosed os
   told-rest Rest next [] h = refl
   told-rest Rest next (o ∷ os) h = rw h
   told-rest (Due c left t) next [] h = absurd h

@@ -6,21 +6,20 @@ use mathlib.Core.List.{List, [], _∷_}
 use lib.ListN.{length}
 use native.Mathlib.Omega.{arith}
 use Rattle.board.specs.declared.Place.{Place}
-use Rattle.board.specs.declared.Phase.{Phase}
-use Rattle.board.specs.declared.Phase.the-variants.{Rest, Due, Waiting, Low}
+use Rattle.board.specs.Board.{atRest}
 use Rattle.port.specs.Packets.{placeNext}
+use Rattle.rest.specs.ToGo.{toGo, to-go-at-most, none-to-go, some-to-go}
+use Rattle.rest.specs.NopLaws.{nop-takes-one-off}
 use Rattle.promises.specs.Machine.{standIn}
 use Rattle.promises.specs.Words.{Word, Stage, stage, isClosed}
 use Rattle.promises.specs.Words.Stage.{operandDue, waitDue, upperDue, closed}
-use Rattle.promises.specs.Environment.{Found, isRest, Trail, heardAt, heard, noted, trail, begun, underWay, AllFit, AllNops}
+use Rattle.promises.specs.Environment.{Found, Trail, heardAt, heard, noted, trail, begun, underWay, AllFit, AllNops}
 use Rattle.promises.specs.Promises.{lastClosed, PlaceRests}
-use Rattle.port.specs.Sound.{PhaseWithin, SoundPlace}
+use Rattle.port.specs.Sound.{SoundPlace}
 use Rattle.port.specs.SoundLaws.{fresh-place-is-sound}
 use Rattle.promises.specs.Environment.AllFit.{none, more}
 use Rattle.promises.specs.Environment.AllNops.{done, nop}
 use Rattle.promises.specs.FitLaws.{place-kept}
-use Rattle.promises.specs.ToGo.{toGo, to-go-at-most, none-to-go}
-use Rattle.promises.specs.NopLaws.{nop-takes-one-off}
 use Rattle.promises.specs.PlaceClosing.{Kept, kept-noted, kept-from-fresh, place-closes-kept}
 
 pub place-fits-trail : (w : ℕ) (t : Trail) (fs : List Found) → AllFit w fs → SoundPlace w (t .place) → SoundPlace w (trail standIn t fs .place)
@@ -40,36 +39,29 @@ one-word-more f p (o ∷ os) = at (stage o)
     at (upperDue upper) = omega arith
     at (closed last) = omega arith
 
--- not at rest there is something to go
-some-to-go : (w : ℕ) (phase : Phase) → PhaseWithin w phase → cond (isRest phase) 0 1 ≤ toGo w phase
-some-to-go w Rest h = zero-le
-some-to-go w (Due c left t) h = omega (arith, h .0)
-some-to-go w (Waiting c left address value) h = omega (arith, h .0)
-some-to-go w (Low low) h = omega arith
-
 one-at-most : (t : Bool) → cond t 0 1 ≤ 1
 one-at-most true = omega arith
 one-at-most false = omega arith
 
 -- so many NOPs as there are packets to go
 record Brings (w : ℕ) (t : Trail) (fs : List Found) : Type 0 where
-  rest : toGo w (t .place .phase) ≤ length fs → isRest (trail standIn t fs .place .phase) ≡ true
+  rest : toGo w (t .place .phase) ≤ length fs → atRest (trail standIn t fs .place .phase) ≡ true
   number : underWay standIn (t .place) fs ≤ toGo w (t .place .phase)
   words : length (trail standIn t fs .words) + underWay standIn (t .place) fs ≡ length (t .words) + length fs
 
 brings : (w : ℕ) (t : Trail) (fs : List Found) → AllNops w fs → Kept w t → SoundPlace w (t .place) → Brings w t fs
 unfolding trail underWay
-brings w t fs done k h = record { rest = λ l. ap isRest (none-to-go w (t .place .phase) (h .phase) l); number = zero-le; words = refl }
+brings w t fs done k h = record { rest = λ l. ap atRest (none-to-go w (t .place .phase) (h .phase) l); number = zero-le; words = refl }
 brings w t fs (nop {fs = gs} b m board memory others) k h =
     let f : Found = record { board = b; memory = m; word = 0 } in
     let one : toGo w (placeNext b (t .place) m 0 .phase) ≤ toGo w (t .place .phase) - 1 = nop-takes-one-off w b (t .place) m (board .setting) (h .phase) in
     let next : Brings w (noted standIn t f) gs =
     brings w (noted standIn t f) gs others (kept-noted w t f (board .setting) k) (place-kept w b (t .place) board h m memory 0) in
-    let taken : length (heard f (t .place) (t .words)) + cond (isRest (t .place .phase)) 0 1 ≡ suc (length (t .words)) =
+    let taken : length (heard f (t .place) (t .words)) + cond (atRest (t .place .phase)) 0 1 ≡ suc (length (t .words)) =
     rw (place-closes-kept w t k .rests) (one-word-more f (t .place) (t .words)) in
     record {
       rest = λ l. next .rest (omega arith);
-      number = omega (arith, next .number, some-to-go w (t .place .phase) (h .phase), one-at-most (isRest (t .place .phase)));
+      number = omega (arith, next .number, some-to-go w (t .place .phase) (h .phase), one-at-most (atRest (t .place .phase)));
       words = omega (arith, next .words);
     }
 

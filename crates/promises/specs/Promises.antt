@@ -6,10 +6,11 @@ use mathlib.Core.List.{List, [], _∷_, map}
 use lib.ListN.{length}
 use Rattle.board.specs.declared.Board.{Board}
 use Rattle.board.specs.Ranges.{inRange}
+use Rattle.board.specs.Board.{atRest}
 use Rattle.promises.specs.Machine.{State, Machine}
 use Rattle.promises.specs.Words.{Word, stage, closing, replyAt, isClosed}
 use Rattle.promises.specs.Words.Closing.{reply}
-use Rattle.promises.specs.Environment.{Found, isRest, Trail, trail, begun, handed, underWay, AllFit, AllNops}
+use Rattle.promises.specs.Environment.{Found, Trail, trail, begun, handed, underWay, AllFit, AllNops}
 use Rattle.promises.specs.History.{Lent, Call, after, finds, made, Idle, nops}
 
 -- the reply that the rules give next: for the last word, or on a fresh board "next reply 0x0FFFF"
@@ -29,9 +30,9 @@ earlier (o ∷ os) = os
 -- Each command word of a place gets one closing reply, in the order sent.
 pub record PlaceCloses (k : Machine) (t : Trail) : Type 0 where
   -- At rest, the next packet carries out the closing reply of the last command word taken.
-  pub last : (o : Word) (os : List Word) → t .words ≡ o ∷ os → isRest (t .place .phase) ≡ true → closing o ≡ reply (k .reply (t .place))
+  pub last : (o : Word) (os : List Word) → t .words ≡ o ∷ os → atRest (t .place .phase) ≡ true → closing o ≡ reply (k .reply (t .place))
   -- The port is at rest exactly where that reply is the next one, so that the packet which carries it out is the next command word.
-  pub rests : isRest (t .place .phase) ≡ lastClosed (t .words)
+  pub rests : atRest (t .place .phase) ≡ lastClosed (t .words)
   -- At rest or not, the next packet carries out what the rules give next for the last word: not ready, its upper result word, or its closing reply.
   pub next : k .reply (t .place) ≡ nextReply (t .words)
   -- Every word before the last has had its closing reply, one each, in the order sent.
@@ -40,7 +41,7 @@ pub record PlaceCloses (k : Machine) (t : Trail) : Type 0 where
 -- Packets that are all NOPs bring a place to rest, whatever board and memory each of them finds.
 pub record PlaceRests (k : Machine) (w : ℕ) (t : Trail) (fs : List Found) : Type 0 where
   -- With 4 + W of them or more the port is at rest.
-  pub enough : 4 + w ≤ length fs → isRest (trail k t fs .place .phase) ≡ true
+  pub enough : 4 + w ≤ length fs → atRest (trail k t fs .place .phase) ≡ true
   -- At most 4 + W of them find it not at rest.
   pub atMost : underWay k (t .place) fs ≤ 4 + w
   -- Those are not taken as command words; each of the others is one.
@@ -71,7 +72,7 @@ pub record NopsBring (k : Machine) (w : ℕ) (s : State) (t : Trail) (ms : List 
   -- Every one of the NOPs is accepted.
   pub accepted : length (finds k s idle) ≡ length ms
   -- With 4 + W NOPs or more the port is at rest.
-  pub enough : 4 + w ≤ length ms → isRest (after k s idle .place .phase) ≡ true
+  pub enough : 4 + w ≤ length ms → atRest (after k s idle .place .phase) ≡ true
   -- It takes at most 4 + W of them, none of which is taken as a command word.
   pub brought : PlaceRests k w t (finds k s idle)
   -- What comes between makes no difference to how many it takes or what the port then holds.

@@ -10,7 +10,7 @@ use Rattle.board.specs.declared.Board.{Board}
 use Rattle.board.specs.declared.Place.{Place}
 use Rattle.board.specs.declared.Phase.{Phase}
 use Rattle.board.specs.declared.Phase.the-variants.{Rest, Due, Waiting, Low}
-use Rattle.board.specs.Board.{freshBoard, freshPlace}
+use Rattle.board.specs.Board.{freshBoard, freshPlace, atRest}
 use Rattle.board.specs.Ranges.{inRange, bstatInRange}
 use Rattle.memory.specs.Memory.{fetched}
 use Rattle.trigger.specs.declared.Event.{Event}
@@ -19,7 +19,7 @@ use Rattle.port.specs.Packets.{planFor, replyNow, placeNext, boardNext, packetV
 use Rattle.promises.specs.Machine.{state, Machine, standIn}
 use Rattle.promises.specs.Words.{stage, closing}
 use Rattle.promises.specs.Words.Closing.{reply}
-use Rattle.promises.specs.Environment.{Found, isRest, trail, AllFit, AllNops}
+use Rattle.promises.specs.Environment.{Found, trail, AllFit, AllNops}
 use Rattle.promises.specs.History.{Call, after, finds, made, Idle}
 use Rattle.promises.specs.History.Call.{event}
 use Rattle.port.specs.Sound.{SoundMemory}
@@ -45,10 +45,10 @@ nops-fit (suc n) = AllNops.nop (freshBoard 2) [] (fresh-sound 2 (omega arith) .b
 pub always-at-rest : (k : Machine) → ((b : Board) (p : Place) (m : List ℕ) (word : ℕ) → k .place b p m word .phase ≡ Rest) → PlaceDemand3 k → ⊥
 unfolding freshBoard freshPlace trail stage decoded decodedWord
 always-at-rest k rests d =
-    true≢false (sym (ap isRest (rests (freshBoard 2) freshPlace [] 0x1980)) ∙ d .closing 2 (onFresh 0x1980 ∷ []) (one-fits 0x1980 (omega arith)) .rests)
+    true≢false (sym (ap atRest (rests (freshBoard 2) freshPlace [] 0x1980)) ∙ d .closing 2 (onFresh 0x1980 ∷ []) (one-fits 0x1980 (omega arith)) .rests)
 
 -- A port that is never at rest again: it replies 0x10000 for ever, or anything else.
-pub never-at-rest : (k : Machine) → ((b : Board) (p : Place) (m : List ℕ) (word : ℕ) → isRest (k .place b p m word .phase) ≡ false) → PlaceDemand3 k → ⊥
+pub never-at-rest : (k : Machine) → ((b : Board) (p : Place) (m : List ℕ) (word : ℕ) → atRest (k .place b p m word .phase) ≡ false) → PlaceDemand3 k → ⊥
 unfolding trail
 never-at-rest k moves d = true≢false (sym (d .rest 2 [] (replicate 6 (onFresh 0)) AllFit.none (nops-fit 6) .enough (omega arith)) ∙ moves (freshBoard 2) _ [] 0)
 
@@ -146,4 +146,4 @@ resting = record {
 
 pub event-moves-the-phase : (e : Event) → Demand3 resting → ⊥
 unfolding freshBoard freshPlace inRange bstatInRange decoded decodedWord ready collected begun continued planFor placeNext boardNext packetVerdict after
-event-moves-the-phase e = event-moves-the-place resting 2 (omega arith) (history (0x2C80 ∷ [])) e (λ same. true≢false (ap (λ (p : Place). isRest (p .phase)) same))
+event-moves-the-phase e = event-moves-the-place resting 2 (omega arith) (history (0x2C80 ∷ [])) e (λ same. true≢false (ap (λ (p : Place). atRest (p .phase)) same))

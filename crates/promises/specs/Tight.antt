@@ -5,13 +5,13 @@ use mathlib.Core.Bool.{Bool, true, false}
 use mathlib.Core.List.{[], _∷_}
 use lib.ListN.{replicate}
 use Rattle.command.specs.Command.{decoded, decodedWord}
-use Rattle.board.specs.Board.{freshBoard, freshPlace}
+use Rattle.board.specs.Board.{freshBoard, freshPlace, atRest}
 use Rattle.board.specs.Ranges.{inRange, bstatInRange}
 use Rattle.registers.specs.Registers.{controlPlace, controlFetched, withControl}
 use Rattle.plan.specs.Plan.{ready, collected, begun, continued}
 use Rattle.port.specs.Packets.{planFor, placeNext, boardNext, packetVerdict}
 use Rattle.promises.specs.Machine.{State, standIn}
-use Rattle.promises.specs.Environment.{isRest, underWay}
+use Rattle.promises.specs.Environment.{underWay}
 use Rattle.promises.specs.History.{after, finds, made, nops}
 use Rattle.promises.specs.Lending.{noMemory, sends}
 
@@ -20,7 +20,7 @@ abbrev pub asked : ℕ → State
 asked w = after standIn (made w) (sends noMemory (0x2880 ∷ []))
 
 abbrev pub restsAfter : ℕ → ℕ → Bool
-restsAfter w n = isRest (after standIn (asked w) (nops (replicate n noMemory)) .place .phase)
+restsAfter w n = atRest (after standIn (asked w) (nops (replicate n noMemory)) .place .phase)
 
 pub record Tight (w : ℕ) : Type 0 where
   -- One NOP fewer than 4 + W does not bring the port to rest,

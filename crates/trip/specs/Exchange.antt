@@ -1,11 +1,11 @@
 -- The exchange (01, Packets, and by eye): a board brought to rest, a request's words sent and then NOPs, and the replies read.
 use Prim.Native.Nat.{ℕ, zero, suc, _+_}
-use mathlib.Core.Bool.{Bool, true, false, cond}
+use mathlib.Core.Bool.{Bool, cond}
 use mathlib.Core.List.{List}
 use lib.ListN.{length, getD, replicate}
-use Rattle.board.specs.declared.Phase.{Phase}
-use Rattle.board.specs.declared.Phase.the-variants.{Rest, Due, Waiting, Low}
+use Rattle.board.specs.declared.Phase.the-variants.{Rest}
 use Rattle.board.specs.declared.Chain.the-variants.{Off}
+use Rattle.board.specs.Board.{atRest}
 use Rattle.plan.specs.Plan.{lawful, waitsOf}
 use Rattle.port.specs.Packets.{replyNow}
 use Rattle.port.specs.Run.{State, stateOf, stepped}
@@ -27,12 +27,6 @@ abbrev pub nops : ℕ → List ℕ
 nops n = replicate n 0
 
 -- ---- rest
-abbrev pub atRest : Phase → Bool
-atRest Rest = true
-atRest (Due c left t) = false
-atRest (Waiting c left address value) = false
-atRest (Low low) = false
-
 -- a place at rest, with what stands there and the reply it holds
 abbrev pub resting : Scene → ℕ → State
 resting s next = stateOf (s .board) (record { phase = Rest; chain = s .chain; pointer = s .pointer; next = next }) (s .memory)
@@ -49,9 +43,9 @@ unfoldable pub restNops : ℕ → State → ℕ
 restNops zero s = 0
 restNops (suc k) s = cond (atRest (s .place .phase)) 0 (suc (restNops k (stepped s 0)))
 
--- four operand words, fifteen waits and an upper word are the most that may be due
+-- 4 + W are enough, and W is at most 15
 abbrev pub restBudget : ℕ
-restBudget = 20
+restBudget = 19
 
 -- ---- the words sent and the replies read
 pub record Talk : Type 0 where

@@ -6,9 +6,11 @@ use mathlib.Core.Path.{_≡_, refl, sym, ap, _∙_, subst}
 use mathlib.Core.Bool.{true, false}
 use mathlib.Core.List.{List, [], _∷_, _++_}
 use lib.ListN.{length, getD, length-append, length-replicate}
+use Rattle.board.specs.Board.{atRest}
 use Rattle.port.specs.Packets.{replyNow}
 use Rattle.port.specs.Run.{State, stepped, ran, replies}
 use Rattle.port.specs.Sound.{Sound}
+use Rattle.rest.specs.ToGo.{waits-at-most}
 use Rattle.requests.specs.declared.Request.{Request}
 use Rattle.requests.specs.declared.ResultKind.{ResultKind}
 use Rattle.requests.specs.declared.ResultKind.the-variants.{NoResult, OfSize}
@@ -24,11 +26,11 @@ use Rattle.requests.specs.ReaderLaws.{done-uses-none}
 use Rattle.requests.specs.Meant.{commandOf}
 use Rattle.requests.specs.CountLaws.{word-count-bound}
 use Rattle.trip.specs.Meaning.{Scene, meaning}
-use Rattle.trip.specs.Exchange.{nops, atRest, resting, sceneOf, talk, talked, talkBudget, exchanged, unchained, secondWord, legalThere, outcomeThere, stateThere, closingReplies, nopsAfter, packetsThere}
+use Rattle.trip.specs.Exchange.{nops, resting, sceneOf, talk, talked, talkBudget, exchanged, unchained, secondWord, legalThere, outcomeThere, stateThere, closingReplies, nopsAfter, packetsThere}
 use Rattle.trip.specs.ClosingLaws.{Closes}
 use Rattle.trip.specs.WorkLaws.{Sized, sound-is-sized}
 use Rattle.trip.specs.RoundTrip.{legal-closes, illegal-closes}
-use Rattle.trip.specs.RestLaws.{waits-bound, rest-is-resting}
+use Rattle.trip.specs.RestLaws.{rest-is-resting}
 use Rattle.trip.specs.StepLaws.{by-test}
 
 -- ---- the words sent, one after the other
@@ -82,7 +84,7 @@ words-length : (words : List ℕ) (n : ℕ) → length (words ++ nops n) ≡ len
 words-length words n = length-append words (nops n) ∙ ap (λ k. length words + k) (length-replicate n 0)
 
 pub nops-after-bound : (w : ℕ) (request : Request) (outcome : Outcome) → w ≤ 15 → nopsAfter w request outcome ≤ 17
-nops-after-bound w request outcome h = omega (arith, waits-bound w (commandOf request), closing-bound (kindOf request) outcome)
+nops-after-bound w request outcome h = omega (arith, waits-at-most w (commandOf request), closing-bound (kindOf request) outcome)
 
 -- ---- the exchange
 module _ (request : Request) (s : Scene) (next : ℕ) (h : inRange request ≡ true) where

@@ -1,127 +1,51 @@
 -- Laws of rest: NOPs bring every place within its ranges to rest, within the budget.
-use Prim.Native.Nat.{ℕ, zero, suc, _+_, _-_, _≤_, _<_}
+use Prim.Native.Nat.{ℕ, zero, suc, _+_, _-_, _≤_}
 use native.Mathlib.Omega.{arith}
-use mathlib.Core.Path.{_≡_, refl}
-use mathlib.Core.Bool.{Bool, true, false, cond}
-use mathlib.Core.List.{List}
-use Rattle.command.specs.declared.Command.{Command}
-use Rattle.command.specs.Command.{operandWords, waits}
-use Rattle.command.specs.CommandLaws.{four-at-most}
-use Rattle.board.specs.declared.Board.{Board}
-use Rattle.board.specs.declared.Chain.{Chain}
-use Rattle.board.specs.declared.Operands.{Operands}
+use mathlib.Core.Path.{_≡_, refl, ap}
+use mathlib.Core.Bool.{true}
 use Rattle.board.specs.declared.Phase.{Phase}
 use Rattle.board.specs.declared.Phase.the-variants.{Rest, Due, Waiting, Low}
-use Rattle.board.specs.declared.Place.{Place}
-use Rattle.work.specs.declared.Ending.{Ending}
-use Rattle.work.specs.declared.Ending.the-variants.{Complete, Failed, OneWord, TwoWords}
-use Rattle.work.specs.Access.{accessOf}
-use Rattle.work.specs.Work.{endingOf, phaseAfter}
-use Rattle.plan.specs.declared.Plan.{Plan}
-use Rattle.plan.specs.declared.Plan.the-variants.{Hold, Reject, Release, Work}
-use Rattle.plan.specs.Plan.{withOperand, addressIn, valueIn, waitsOf, ready, collected, continued, planOf}
-use Rattle.port.specs.Packets.{placeBy, planFor, placeNext}
+use Rattle.board.specs.Board.{atRest}
 use Rattle.port.specs.Run.{State, stateOf, stepped, ran}
-use Rattle.port.specs.Sound.{PhaseWithin, Sound}
+use Rattle.port.specs.Sound.{Sound}
 use Rattle.port.specs.SoundLaws.{packet-keeps-w, packet-keeps-sound}
-use Rattle.trip.specs.Exchange.{nops, atRest, resting, sceneOf, rested, restNops, restBudget}
-use Rattle.trip.specs.StepLaws.{by-test, waits-none, waits-more, due-none, due-more}
+use Rattle.rest.specs.ToGo.{toGo, to-go-at-most, none-to-go, some-to-go}
+use Rattle.rest.specs.NopLaws.{nop-takes-one-off}
+use Rattle.trip.specs.Exchange.{nops, resting, sceneOf, rested, restNops, restBudget}
+use Rattle.trip.specs.StepLaws.{by-test}
 
--- the most NOPs that a phase may still need
-abbrev pub left : ℕ → Phase → ℕ
-left w Rest = 0
-left w (Due c n t) = n + waitsOf w c + 1
-left w (Waiting c n address value) = n + 1
-left w (Low low) = 1
-
--- .. and what a packet may leave
-abbrev leftBy : ℕ → Plan → ℕ
-leftBy w (Hold phase) = left w phase
-leftBy w Reject = 0
-leftBy w (Release low) = 0
-leftBy w (Work c address value) = 1
-
-ending-left : (w : ℕ) (e : Ending) → left w (phaseAfter e) ≤ 1
-ending-left w Complete = omega arith
-ending-left w Failed = omega arith
-ending-left w (OneWord v) = omega arith
-ending-left w (TwoWords v) = omega arith
-
-plan-left : (w : ℕ) (plan : Plan) (b : Board) (p : Place) (m : List ℕ) → left w (placeBy plan b p m .phase) ≤ leftBy w plan
-plan-left w (Hold phase) b p m = omega arith
-plan-left w Reject b p m = omega arith
-plan-left w (Release low) b p m = omega arith
-plan-left w (Work c a v) b p m = ending-left w (endingOf c b a (accessOf c m (p .pointer) a))
-
-ready-left : (w k : ℕ) (c : Command) (a v : ℕ) → leftBy w (ready k c a v) ≤ k + 1
-ready-left w zero c a v = rw (waits-none c a v) (omega arith)
-ready-left w (suc k) c a v = rw (waits-more k c a v) (omega arith)
-
-collected-left : (w n : ℕ) (c : Command) (t : Operands) → leftBy w (collected w n c t) ≤ n + waitsOf w c + 1
-collected-left w zero c t = rw (due-none w c t) (omega (arith, ready-left w (waitsOf w c) c (addressIn (operandWords c) t) (valueIn (operandWords c) t)))
-collected-left w (suc n) c t = rw (due-more w n c t) (omega arith)
-
-plan-falls : (w : ℕ) (phase : Phase) (halted : Bool) (chain : Chain) → PhaseWithin w phase → atRest phase ≡ false → leftBy w (planOf phase halted chain w 0) < left w phase
-unfolding continued
-plan-falls w Rest halted chain h more = let z : _≡_ {A = ℕ} 0 1 = cc in absurd (omega arith)
-plan-falls w (Due c n t) halted chain h more = omega (arith, h .0, collected-left w (n - 1) c (withOperand t 0))
-plan-falls w (Waiting c n a v) halted chain h more = omega (arith, h .0, ready-left w (n - 1) c a v)
-plan-falls w (Low low) halted chain h more = omega arith
-
--- each NOP leaves less
-pub left-falls : {s : State} → Sound s → atRest (s .place .phase) ≡ false → left (s .board .w) (stepped s 0 .place .phase) < left (s .board .w) (s .place .phase)
-unfolding stepped placeNext planFor
-left-falls {s} f more =
-    let b = s .board in
-    let p = s .place in
-    omega (arith, plan-left (b .w) (planFor b p 0) b p (s .memory), plan-falls (b .w) (p .phase) (b .status .halted) (p .chain) (f .place .phase) more)
-
--- ---- the budget
-pub waits-bound : (w : ℕ) (c : Command) → waitsOf w c ≤ w
-waits-bound w c = by-command (waits c)
-  where
-    by-command : (t : Bool) → cond t w 0 ≤ w
-    by-command true = omega arith
-    by-command false = omega arith
-
-left-bound : (w : ℕ) (phase : Phase) → w ≤ 15 → PhaseWithin w phase → left w phase ≤ restBudget
-left-bound w Rest h f = omega arith
-left-bound w (Due c n t) h f = omega (arith, f .1, four-at-most c, waits-bound w c)
-left-bound w (Waiting c n a v) h f = omega (arith, f .1)
-left-bound w (Low low) h f = omega arith
-
--- ---- rest
-none-left : (w : ℕ) (phase : Phase) → left w phase ≤ 0 → atRest phase ≡ true
-none-left w Rest h = refl
-none-left w (Due c n t) h = absurd (omega arith)
-none-left w (Waiting c n a v) h = absurd (omega arith)
-none-left w (Low low) h = absurd (omega arith)
-
-keeps-w : (s : State) (word : ℕ) → stepped s word .board .w ≡ s .board .w
+nop-leaves : {s : State} → Sound s → toGo (stepped s 0 .board .w) (stepped s 0 .place .phase) ≤ toGo (s .board .w) (s .place .phase) - 1
 unfolding stepped
-keeps-w s word = packet-keeps-w (s .board) (s .place) word
+nop-leaves {s} f = rw (packet-keeps-w (s .board) (s .place) 0) (nop-takes-one-off (s .board .w) (s .board) (s .place) (s .memory) refl (f .place .phase))
 
-rests-within : (k : ℕ) (s : State) → Sound s → left (s .board .w) (s .place .phase) ≤ k → atRest (rested k s .place .phase) ≡ true
+rests-within : (k : ℕ) (s : State) → Sound s → toGo (s .board .w) (s .place .phase) ≤ k → atRest (rested k s .place .phase) ≡ true
 unfolding rested
-rests-within zero s f h = none-left (s .board .w) (s .place .phase) h
+rests-within zero s f h = ap atRest (none-to-go (s .board .w) (s .place .phase) (f .place .phase) h)
 rests-within (suc k) s f h =
-    by-test (atRest (s .place .phase))
-    (λ t. rw t t)
-    (λ t. rw t (rests-within k (stepped s 0) (packet-keeps-sound f 0) (rw (keeps-w s 0) (omega (arith, left-falls f t)))))
+    by-test (atRest (s .place .phase)) (λ t. rw t t) (λ t. rw t (rests-within k (stepped s 0) (packet-keeps-sound f 0) (omega (arith, nop-leaves f))))
 
--- the budget is enough
+-- 4 + W are enough
+pub four-and-w : (k : ℕ) {s : State} → Sound s → 4 + s .board .w ≤ k → atRest (rested k s .place .phase) ≡ true
+four-and-w k {s} f h = rests-within k s f (omega (arith, to-go-at-most (s .board .w) (s .place .phase) (f .place .phase)))
+
 pub comes-to-rest : {s : State} → Sound s → atRest (rested restBudget s .place .phase) ≡ true
-comes-to-rest {s} f = rests-within restBudget s f (left-bound (s .board .w) (s .place .phase) (f .board .setting) (f .place .phase))
+comes-to-rest f = four-and-w restBudget f (omega (arith, f .board .setting))
 
 pub rest-keeps-sound : (k : ℕ) (s : State) → Sound s → Sound (rested k s)
 unfolding rested
 rest-keeps-sound zero s f = f
 rest-keeps-sound (suc k) s f = by-test (atRest (s .place .phase)) (λ t. rw t f) (λ t. rw t (rest-keeps-sound k (stepped s 0) (packet-keeps-sound f 0)))
 
-pub rest-nops-bound : (k : ℕ) (s : State) → restNops k s ≤ k
+nops-within : (k : ℕ) (s : State) → Sound s → restNops k s ≤ toGo (s .board .w) (s .place .phase)
 unfolding restNops
-rest-nops-bound zero s = omega arith
-rest-nops-bound (suc k) s = by-test (atRest (s .place .phase)) (λ t. rw t (omega arith)) (λ t. rw t (omega (arith, rest-nops-bound k (stepped s 0))))
+nops-within zero s f = omega arith
+nops-within (suc k) s f =
+    by-test (atRest (s .place .phase)) (λ t. rw t (omega arith))
+    (λ t. rw t (omega (arith, nops-within k (stepped s 0) (packet-keeps-sound f 0), nop-leaves f, rw t at (some-to-go (s .board .w) (s .place .phase) (f .place .phase)))))
+
+-- no more than 4 + W go out
+pub rest-nops-bound : (k : ℕ) {s : State} → Sound s → restNops k s ≤ 4 + s .board .w
+rest-nops-bound k {s} f = omega (arith, nops-within k s f, to-go-at-most (s .board .w) (s .place .phase) (f .place .phase))
 
 -- it is the run of so many NOPs
 pub rest-is-nops : (k : ℕ) (s : State) → rested k s ≡ ran (nops (restNops k s)) s

@@ -7,7 +7,7 @@ use borrow.Author.Tests.{lt-leb, ne-eqb}
 use Rattle.command.specs.declared.Command.{Command}
 use Rattle.command.specs.declared.Command.the-variants.{Unknown, Nop, Load, Store, Show, Change}
 use Rattle.command.specs.declared.Base.the-variants.{Address, Pointer}
-use Rattle.command.specs.Command.{decoded, decodedWord, operandWords}
+use Rattle.command.specs.Command.{decoded, operandWords}
 use Rattle.board.specs.declared.Operands.{Operands}
 use Rattle.board.specs.declared.Chain.{Chain}
 use Rattle.board.specs.declared.Phase.{Phase}
@@ -22,6 +22,7 @@ use Rattle.plan.specs.declared.Plan.the-variants.{Hold, Work}
 use Rattle.plan.specs.Plan.{withOperand, noOperands, addressIn, valueIn, waitsOf, ready, collected, begun, continued, lawful}
 use Rattle.port.specs.Packets.{chainDuring, placeBy, boardBy, memoryBy, planFor, placeNext, boardNext, memoryNext}
 use Rattle.port.specs.Run.{State, stateOf, stepped}
+use Rattle.port.specs.QuietLaws.{nop-plan}
 use Rattle.trip.specs.Meaning.{Scene}
 use Rattle.trip.specs.Exchange.{resting, unchained}
 
@@ -134,9 +135,5 @@ illegal-taken word next s l = rw l
 
 -- a NOP at rest: all stays, and the next reply is "complete"
 pub nop-at-rest : (s : Scene) (next : ℕ) → stepped (resting s next) 0 ≡ resting s 0x0FFFF
-unfolding stepped placeNext boardNext memoryNext planFor begun collected ready decoded decodedWord
-nop-at-rest s next = rw (by-halted (s .board .status .halted))
-  where
-    by-halted : (halted : Bool) → lawful 0 halted (s .chain) ≡ true
-    by-halted true = refl
-    by-halted false = refl
+unfolding stepped placeNext boardNext memoryNext planFor
+nop-at-rest s next = rw (nop-plan (s .board .status .halted) (s .chain) (s .board .w))

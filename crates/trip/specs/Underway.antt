@@ -6,6 +6,7 @@ use mathlib.Core.Path.{_≡_, refl, sym, ap, _∙_}
 use mathlib.Core.Bool.{true, false}
 use mathlib.Core.List.{List, [], _∷_}
 use lib.ListN.{getD}
+use Rattle.board.specs.Board.{atRest}
 use Rattle.port.specs.Packets.{replyNow}
 use Rattle.port.specs.Run.{State, stepped}
 use Rattle.port.specs.Sound.{Sound}
@@ -17,7 +18,7 @@ use Rattle.requests.specs.Request.{inRange, kindOf}
 use Rattle.requests.specs.Words.{commandWord, builtWords}
 use Rattle.requests.specs.WordLaws.{Clear, built-clear}
 use Rattle.requests.specs.Replies.{fed, done}
-use Rattle.trip.specs.Exchange.{atRest, rested, restNops, restBudget, Talk, talk, talked, talkBudget, exchanged}
+use Rattle.trip.specs.Exchange.{rested, restNops, restBudget, Talk, talk, talked, talkBudget, exchanged}
 use Rattle.trip.specs.RestLaws.{comes-to-rest}
 use Rattle.trip.specs.ExchangeLaws.{exchange-comes-to}
 

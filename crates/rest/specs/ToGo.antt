@@ -1,4 +1,4 @@
--- Demand 3, rest: how many packets a phase has to go, at most 4 + W, and how each packet takes one off.
+-- Coming to rest: how many packets a phase has to go, at most 4 + W, and what a plan leaves of them.
 use Prim.Native.Nat.{ℕ, _+_, _-_, _≤_, zero-le}
 use native.Mathlib.Nat.{le-refl}
 use mathlib.Core.Path.{_≡_, refl}
@@ -22,6 +22,7 @@ use Rattle.board.specs.declared.Place.{Place}
 use Rattle.board.specs.declared.Operands.{Operands}
 use Rattle.board.specs.declared.Phase.{Phase}
 use Rattle.board.specs.declared.Phase.the-variants.{Rest, Due, Waiting, Low}
+use Rattle.board.specs.Board.{atRest}
 use Rattle.registers.specs.Registers.{shown, reached}
 use Rattle.work.specs.declared.Access.the-variants.{Stored, Missing}
 use Rattle.work.specs.Access.{past, fetchedAccess, startOf, accessOf}
@@ -43,7 +44,7 @@ toGo w (Due c left t) = left + waitsOf w c + uppers c
 toGo w (Waiting c left address value) = left + uppers c
 toGo w (Low low) = 1
 
-waits-at-most : (w : ℕ) (c : Command) → waitsOf w c ≤ w
+pub waits-at-most : (w : ℕ) (c : Command) → waitsOf w c ≤ w
 waits-at-most w c = either (λ (n : ℕ). n ≤ w) (waits c) w 0 (λ e. le-refl w) (λ e. zero-le)
 
 pub to-go-at-most : (w : ℕ) (phase : Phase) → PhaseWithin w phase → toGo w phase ≤ 4 + w
@@ -57,6 +58,13 @@ none-to-go w Rest h l = refl
 none-to-go w (Due c left t) h l = absurd (omega (arith, h .0))
 none-to-go w (Waiting c left address value) h l = absurd (omega (arith, h .0))
 none-to-go w (Low low) h l = absurd (omega arith)
+
+-- not at rest there is something to go
+pub some-to-go : (w : ℕ) (phase : Phase) → PhaseWithin w phase → cond (atRest phase) 0 1 ≤ toGo w phase
+some-to-go w Rest h = zero-le
+some-to-go w (Due c left t) h = omega (arith, h .0)
+some-to-go w (Waiting c left address value) h = omega (arith, h .0)
+some-to-go w (Low low) h = omega arith
 
 -- what the work leaves to go: the upper result word, where there are two
 accessed : (w : ℕ) (s : Size) (f : Fetch) (past : ℕ) → toGo w (phaseAfter (accessEnding (fetchedAccess s past f))) ≤ sizeWords s - 1

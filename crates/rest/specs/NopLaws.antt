@@ -1,30 +1,22 @@
--- Demand 3, rest: what a NOP is taken for, and that it takes one off what is to go, at rest or not, whatever it finds.
+-- Coming to rest: a NOP takes one off what is to go, at rest or not, whatever it finds.
 use Prim.Native.Nat.{ℕ, _+_, _-_, _≤_, zero-le}
-use mathlib.Core.Path.{_≡_, refl}
-use mathlib.Core.Bool.{Bool, true, false}
+use mathlib.Core.Path.{_≡_}
+use mathlib.Core.Bool.{Bool}
 use mathlib.Core.List.{List}
 use native.Mathlib.Omega.{arith}
-use Rattle.command.specs.declared.Command.the-variants.{Nop}
-use Rattle.command.specs.Command.{decodedWord, decoded}
 use Rattle.board.specs.declared.Board.{Board}
 use Rattle.board.specs.declared.Place.{Place}
 use Rattle.board.specs.declared.Phase.{Phase}
 use Rattle.board.specs.declared.Phase.the-variants.{Rest, Due, Waiting, Low}
 use Rattle.board.specs.declared.Chain.{Chain}
-use Rattle.plan.specs.declared.Plan.the-variants.{Work}
-use Rattle.plan.specs.Plan.{ready, waitsOf, collected, begun, continued, planOf}
+use Rattle.plan.specs.Plan.{ready, waitsOf, continued, planOf}
 use Rattle.port.specs.Packets.{planFor, placeNext}
 use Rattle.port.specs.Sound.{PhaseWithin}
-use Rattle.promises.specs.ToGo.{uppers, toGo, PlanLeaves, leaves-more, place-leaves, ready-leaves, continued-leaves}
-
--- at rest a NOP does its work at once, halted or running, in or out of a chain
-pub nop-at-rest : (halted : Bool) (chain : Chain) (w : ℕ) → begun halted chain w 0 ≡ Work Nop 0 0
-unfolding begun collected ready decoded decodedWord
-nop-at-rest true chain w = refl
-nop-at-rest false chain w = refl
+use Rattle.port.specs.QuietLaws.{nop-plan}
+use Rattle.rest.specs.ToGo.{uppers, toGo, PlanLeaves, leaves-more, place-leaves, ready-leaves, continued-leaves}
 
 nop-leaves : (w : ℕ) (phase : Phase) (halted : Bool) (chain : Chain) → PhaseWithin w phase → PlanLeaves w (toGo w phase - 1) (planOf phase halted chain w 0)
-nop-leaves w Rest halted chain h = rw (nop-at-rest halted chain w) zero-le
+nop-leaves w Rest halted chain h = rw (nop-plan halted chain w) zero-le
 nop-leaves w (Due c left t) halted chain h =
     leaves-more w (left - 1 + waitsOf w c + uppers c) (left + waitsOf w c + uppers c - 1) (continued c left t w 0) (omega (arith, h .0)) (continued-leaves c left t w 0)
 nop-leaves w (Waiting c left address value) halted chain h =

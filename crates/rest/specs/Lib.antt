@@ -1,0 +1,2 @@
+pub mod ToGo
+pub mod NopLaws
