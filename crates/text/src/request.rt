@@ -1,0 +1,76 @@
+// The text of refusals and of requests: words to send, what was read, what an exchange came to.
+use crate::put_byte;
+use crate::put_decimal;
+use crate::put_hex;
+use crate::put_text;
+use grounds::Ground;
+use requests::Outcome;
+use requests::Reading;
+
+pub fn put_unclear(text: &mut [u8]) -> usize {
+    put_text(text, 0, b"unclear")
+}
+
+// `refused N at C`
+pub fn put_refusal_at(text: &mut [u8], ground: Ground, cycle: usize) -> usize {
+    let at = put_text(text, 0, b"refused ");
+    let at = put_decimal(text, at, grounds::number_of(ground) as usize);
+    let at = put_text(text, at, b" at ");
+    put_decimal(text, at, cycle)
+}
+
+// `refused N at 0`: only a trace is refused at a cycle.
+pub fn put_refusal(text: &mut [u8], ground: Ground) -> usize {
+    put_refusal_at(text, ground, 0)
+}
+
+fn put_outcome(text: &mut [u8], outcome: Outcome) -> usize {
+    match outcome {
+        Outcome::Value(value) => {
+            let at = put_text(text, 0, b"value ");
+            put_hex(text, at, value, 8)
+        }
+        Outcome::Complete => put_text(text, 0, b"complete"),
+        Outcome::BusError => put_text(text, 0, b"bus-error"),
+        Outcome::Illegal => put_text(text, 0, b"illegal"),
+    }
+}
+
+// `words X X ..`
+pub fn put_words(text: &mut [u8], words: &[u32]) -> usize {
+    let mut at = put_text(text, 0, b"words");
+    let mut i: usize = 0;
+    while i < words.len() {
+        at = put_byte(text, at, b' ');
+        at = put_hex(text, at, words[i], 5);
+        i += 1;
+    }
+    at
+}
+
+fn put_used(text: &mut [u8], at: usize, used: usize) -> usize {
+    let at = put_text(text, at, b" used ");
+    put_decimal(text, at, used)
+}
+
+// `.. used N`
+pub fn put_reading(text: &mut [u8], reading: Reading) -> usize {
+    match reading {
+        Reading::Ended(outcome, used) => {
+            let at = put_outcome(text, outcome);
+            put_used(text, at, used)
+        }
+        Reading::NotYet(used) => {
+            let at = put_text(text, 0, b"not-yet");
+            put_used(text, at, used)
+        }
+        Reading::Refused(ground) => put_refusal(text, ground),
+    }
+}
+
+// `.. packets N`
+pub fn put_exchange(text: &mut [u8], outcome: Outcome, packets: u32) -> usize {
+    let at = put_outcome(text, outcome);
+    let at = put_text(text, at, b" packets ");
+    put_decimal(text, at, packets as usize)
+}
