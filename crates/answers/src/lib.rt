@@ -9,6 +9,8 @@ use bus::Seen;
 use grounds::Verdict;
 use lines::BoardLine;
 use port::Outcome;
+use text::request::put_refusal;
+use text::request::put_unclear;
 use trigger::Access;
 use trigger::Bus;
 use trigger::Event;
@@ -66,13 +68,6 @@ pub fn bench_after(board: Board, place: Place, lent: usize, end: usize) -> Answe
     }
 }
 
-fn put_flag(text: &mut [u8], at: usize, flag: bool) -> usize {
-    if flag {
-        return console::put_byte(text, at, b'1');
-    }
-    console::put_byte(text, at, b'0')
-}
-
 fn make(w: u32, bench: Bench, text: &mut [u8]) -> Answered
     ensures { λ r. ⌜ r .bench ≡ benchOf (unless (makingVerdict w) (freshBoard w) (bench .board)) (unless (makingVerdict w) freshPlace (bench .place)) (bench .lent) ⌝ }
 {
@@ -82,12 +77,12 @@ fn make(w: u32, bench: Bench, text: &mut [u8]) -> Answered
     let place = made.place;
     match verdict {
         Verdict::Accepted => {
-            let end = console::put_text(text, 0, b"made");
+            let end = text::put_text(text, 0, b"made");
             bench_after(board, place, bench.lent, end)
         }
         Verdict::Refused(ground) => Answered {
             bench: bench,
-            end: console::put_refusal(text, ground),
+            end: put_refusal(text, ground),
         },
     }
 }
@@ -115,8 +110,8 @@ fn lend(n: u32, bench: Bench, memory: &mut [u8], text: &mut [u8]) -> Answered
 {
     let count = n as usize;
     clear(memory, count);
-    let at = console::put_text(text, 0, b"memory ");
-    let end = console::put_number(text, at, n);
+    let at = text::put_text(text, 0, b"memory ");
+    let end = text::put_number(text, at, count);
     let board = bench.board;
     let place = bench.place;
     bench_after(board, place, count, end)
@@ -179,15 +174,15 @@ fn put_bytes(
 {
     if is_lent(address, count, bench.lent) {
         copy_bytes(line, start, count, memory, address as usize);
-        let at = console::put_text(text, 0, b"bytes ");
+        let at = text::put_text(text, 0, b"bytes ");
         return Answered {
             bench: bench,
-            end: console::put_number(text, at, (count % 0x100000000) as u32),
+            end: text::put_number(text, at, count),
         };
     }
     Answered {
         bench: bench,
-        end: console::put_text(text, 0, b"unclear"),
+        end: put_unclear(text),
     }
 }
 
@@ -195,7 +190,7 @@ fn show_bytes(address: u32, count: u32, bench: Bench, memory: &[u8], text: &mut 
     ensures { λ r. ⌜ r .bench ≡ bench ⌝ }
 {
     if is_lent(address, count as usize, bench.lent) {
-        let at = console::put_text(text, 0, b"peek ");
+        let at = text::put_text(text, 0, b"peek ");
         return Answered {
             bench: bench,
             end: put_memory(memory, address as usize, count, text, at),
@@ -203,7 +198,7 @@ fn show_bytes(address: u32, count: u32, bench: Bench, memory: &[u8], text: &mut 
     }
     Answered {
         bench: bench,
-        end: console::put_text(text, 0, b"unclear"),
+        end: put_unclear(text),
     }
 }
 
@@ -227,7 +222,7 @@ fn put_memory(memory: &[u8], from: usize, count: u32, text: &mut [u8], at: usize
     let mut i: usize = 0;
     let most = count as usize;
     while i < most {
-        to = console::put_hex(text, to, byte_of(memory, from, i), 2);
+        to = text::put_hex(text, to, byte_of(memory, from, i), 2);
         i += 1;
     }
     to
@@ -259,41 +254,41 @@ fn take_word(word: u32, bench: Bench, memory: &mut [u8], text: &mut [u8]) -> Ans
 fn put_reply(text: &mut [u8], outcome: Outcome) -> usize {
     match outcome {
         Outcome::Reply(reply) => {
-            let at = console::put_text(text, 0, b"reply ");
-            console::put_hex(text, at, reply, 5)
+            let at = text::put_text(text, 0, b"reply ");
+            text::put_hex(text, at, reply, 5)
         }
-        Outcome::Refusing(ground) => console::put_refusal(text, ground),
+        Outcome::Refusing(ground) => put_refusal(text, ground),
     }
 }
 
 fn put_halted(text: &mut [u8], at: usize, halted: bool, interrupt: bool) -> usize {
-    let at = console::put_text(text, at, b" halted ");
-    let at = put_flag(text, at, halted);
-    let at = console::put_text(text, at, b" interrupt ");
-    put_flag(text, at, interrupt)
+    let at = text::put_text(text, at, b" halted ");
+    let at = text::put_flag(text, at, halted);
+    let at = text::put_text(text, at, b" interrupt ");
+    text::put_flag(text, at, interrupt)
 }
 
 fn put_captured(text: &mut [u8], at: usize, captured: Captured) -> usize {
     match captured {
-        Captured::Nothing => console::put_text(text, at, b" pc none"),
+        Captured::Nothing => text::put_text(text, at, b" pc none"),
         Captured::Pc(pc) => {
-            let at = console::put_text(text, at, b" pc ");
-            console::put_hex(text, at, pc, 8)
+            let at = text::put_text(text, at, b" pc ");
+            text::put_hex(text, at, pc, 8)
         }
     }
 }
 
 fn put_seen(text: &mut [u8], seen: Seen) -> usize {
     let captured = seen.captured;
-    let at = console::put_text(text, 0, b"event level ");
-    let at = console::put_hex(text, at, seen.level, 1);
+    let at = text::put_text(text, 0, b"event level ");
+    let at = text::put_hex(text, at, seen.level, 1);
     let at = put_halted(text, at, seen.halted, seen.interrupt);
     put_captured(text, at, captured)
 }
 
 fn put_event(text: &mut [u8], outcome: EventOutcome) -> usize {
     match outcome {
-        EventOutcome::Refused(ground) => console::put_refusal(text, ground),
+        EventOutcome::Refused(ground) => put_refusal(text, ground),
         EventOutcome::Taken(seen) => put_seen(text, seen),
     }
 }
@@ -311,13 +306,13 @@ fn watch(event: Event, bench: Bench, text: &mut [u8]) -> Answered
 }
 
 fn put_pressed(text: &mut [u8], pressed: Pressed) -> usize {
-    let at = console::put_text(text, 0, b"breakpoint");
+    let at = text::put_text(text, 0, b"breakpoint");
     put_halted(text, at, pressed.halted, pressed.interrupt)
 }
 
 fn put_breakpoint(text: &mut [u8], outcome: BreakpointOutcome) -> usize {
     match outcome {
-        BreakpointOutcome::Refused(ground) => console::put_refusal(text, ground),
+        BreakpointOutcome::Refused(ground) => put_refusal(text, ground),
         BreakpointOutcome::Taken(pressed) => put_pressed(text, pressed),
     }
 }
@@ -402,7 +397,7 @@ pub fn answer_line(
         BoardLine::State => tell_state(bench, text),
         BoardLine::Unclear => Answered {
             bench: bench,
-            end: console::put_text(text, 0, b"unclear"),
+            end: put_unclear(text),
         },
     }
 }

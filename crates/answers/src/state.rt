@@ -1,6 +1,7 @@
 // The line `state`: all that the board and the place hold.
 use board::Board;
 use board::Chain;
+use board::Debug;
 use board::Phase;
 use board::Place;
 
@@ -8,116 +9,105 @@ fn one_if(flag: bool) -> u32 {
     if flag { 1 } else { 0 }
 }
 
-// W, halted, CSR and the debug registers, then D0 to A7, the control registers and a pending SYNC_PC.
-fn values_of(board: Board) -> [u32; 39] {
-    let mut values = [0u32; 39];
-    values[0] = board.w;
-    values[1] = one_if(board.status.halted);
-    values[2] = registers::csr_of(board);
-    values[3] = board.debug.tdr;
-    values[4] = board.debug.aatr as u32;
-    values[5] = board.debug.baar as u32;
-    values[6] = board.debug.pbr;
-    values[7] = board.debug.pbmr;
-    values[8] = board.debug.abhr;
-    values[9] = board.debug.ablr;
-    values[10] = board.debug.dbr;
-    values[11] = board.debug.dbmr;
-    values[38] = one_if(board.status.sync);
-    let held = board.registers;
-    let mut i: usize = 0;
-    while i < 16 {
-        values[12 + i] = held.general[i];
-        i += 1;
-    }
-    let mut k: usize = 0;
-    while k < 10 {
-        values[28 + k] = held.control[k];
-        k += 1;
-    }
-    values
-}
-
-fn digits_of(field: usize) -> u32 {
-    match field {
-        0 => 1,
-        1 => 1,
-        4 => 4,
-        5 => 2,
-        38 => 1,
-        _ => 8,
-    }
-}
-
-fn put_value(text: &mut [u8], at: usize, field: usize, value: u32) -> usize {
-    let at = console::put_byte(text, at, b'=');
-    let at = console::put_hex(text, at, value, digits_of(field));
-    console::put_byte(text, at, b' ')
-}
-
-// Where the text goes on, and the next field.
+// Where the text goes on, and the next value.
 pub struct Put {
     pub at: usize,
-    pub field: usize,
+    pub next: usize,
 }
 
-// A byte of a name, or at the space that ends it the field's value.
-fn put_mark(text: &mut [u8], at: usize, mark: u8, field: usize, values: &[u32]) -> Put {
-    if mark != b' ' {
+// A byte of a form, or where it is a number of digits the next value.
+fn put_mark(text: &mut [u8], at: usize, mark: u8, next: usize, values: &[u32]) -> Put {
+    if 8 < mark {
         return Put {
-            at: console::put_byte(text, at, mark),
-            field: field,
+            at: text::put_byte(text, at, mark),
+            next: next,
         };
     }
-    if field < values.len() {
+    if next < values.len() {
         return Put {
-            at: put_value(text, at, field, values[field]),
-            field: field + 1,
+            at: text::put_hex(text, at, values[next], mark as u32),
+            next: next + 1,
         };
     }
-    Put {
-        at: at,
-        field: field,
-    }
+    Put { at: at, next: next }
 }
 
-// Each name, which ends at a space, with its value.
-fn put_fields(text: &mut [u8], at: usize, names: &[u8], values: &[u32]) -> usize {
+// A form with the values in their places.
+fn put_fields(text: &mut [u8], at: usize, form: &[u8], values: &[u32]) -> usize {
     let mut to = at;
-    let mut field: usize = 0;
+    let mut next: usize = 0;
     let mut i: usize = 0;
-    while i < names.len() {
-        let put = put_mark(text, to, names[i], field, values);
+    while i < form.len() {
+        let put = put_mark(text, to, form[i], next, values);
         to = put.at;
-        field = put.field;
+        next = put.next;
         i += 1;
     }
     to
 }
 
+fn put_status(text: &mut [u8], at: usize, board: Board) -> usize {
+    let values = [
+        board.w,
+        one_if(board.status.halted),
+        registers::csr_of(board),
+    ];
+    put_fields(text, at, b"w=\x01 halted=\x01 csr=\x08 ", &values)
+}
+
+fn put_debug(text: &mut [u8], at: usize, debug: Debug) -> usize {
+    let values = [
+        debug.tdr,
+        debug.aatr as u32,
+        debug.baar as u32,
+        debug.pbr,
+        debug.pbmr,
+        debug.abhr,
+        debug.ablr,
+        debug.dbr,
+        debug.dbmr,
+    ];
+    let form =
+        b"tdr=\x08 aatr=\x04 baar=\x02 pbr=\x08 pbmr=\x08 abhr=\x08 ablr=\x08 dbr=\x08 dbmr=\x08 ";
+    put_fields(text, at, form, &values)
+}
+
+fn put_general(text: &mut [u8], at: usize, general: [u32; 16]) -> usize {
+    let data = b"d0=\x08 d1=\x08 d2=\x08 d3=\x08 d4=\x08 d5=\x08 d6=\x08 d7=\x08 ";
+    let address = b"a0=\x08 a1=\x08 a2=\x08 a3=\x08 a4=\x08 a5=\x08 a6=\x08 a7=\x08 ";
+    let at = put_fields(text, at, data, &general[0..8]);
+    put_fields(text, at, address, &general[8..16])
+}
+
+fn put_control(text: &mut [u8], at: usize, control: [u32; 10]) -> usize {
+    let form =
+        b"cacr=\x08 acr0=\x08 acr1=\x08 vbr=\x08 macsr=\x08 mask=\x08 acc=\x08 sr=\x08 pc=\x08 rambar=\x08 ";
+    put_fields(text, at, form, &control)
+}
+
 fn put_phase(text: &mut [u8], at: usize, phase: Phase) -> usize {
     match phase {
-        Phase::Rest => console::put_text(text, at, b"phase=rest"),
+        Phase::Rest => text::put_text(text, at, b"phase=rest"),
         Phase::Due(_, left, _) => {
-            let at = console::put_text(text, at, b"phase=operands:");
-            console::put_number(text, at, left)
+            let at = text::put_text(text, at, b"phase=operands:");
+            text::put_number(text, at, left as usize)
         }
         Phase::Waiting(_, left, _, _) => {
-            let at = console::put_text(text, at, b"phase=waiting:");
-            console::put_number(text, at, left)
+            let at = text::put_text(text, at, b"phase=waiting:");
+            text::put_number(text, at, left as usize)
         }
         Phase::Low(low) => {
-            let at = console::put_text(text, at, b"phase=low:");
-            console::put_hex(text, at, low as u32, 4)
+            let at = text::put_text(text, at, b"phase=low:");
+            text::put_hex(text, at, low as u32, 4)
         }
     }
 }
 
 fn put_chain(text: &mut [u8], at: usize, chain: Chain) -> usize {
     match chain {
-        Chain::Off => console::put_text(text, at, b" chain=none"),
-        Chain::Dumping => console::put_text(text, at, b" chain=dump"),
-        Chain::Filling => console::put_text(text, at, b" chain=fill"),
+        Chain::Off => text::put_text(text, at, b" chain=none"),
+        Chain::Dumping => text::put_text(text, at, b" chain=dump"),
+        Chain::Filling => text::put_text(text, at, b" chain=fill"),
     }
 }
 
@@ -126,17 +116,23 @@ fn put_place(text: &mut [u8], at: usize, place: Place) -> usize {
     let chain = place.chain;
     let at = put_phase(text, at, phase);
     let at = put_chain(text, at, chain);
-    let at = console::put_text(text, at, b" pointer=");
-    let at = console::put_hex(text, at, place.pointer, 5);
-    let at = console::put_text(text, at, b" next=");
-    console::put_hex(text, at, place.next, 5)
+    let at = text::put_text(text, at, b" pointer=");
+    let at = text::put_hex(text, at, place.pointer, 5);
+    let at = text::put_text(text, at, b" next=");
+    text::put_hex(text, at, place.next, 5)
 }
 
 pub fn put_state(text: &mut [u8], board: Board, place: Place) -> usize {
-    let names =
-        b"w halted csr tdr aatr baar pbr pbmr abhr ablr dbr dbmr d0 d1 d2 d3 d4 d5 d6 d7 a0 a1 a2 a3 a4 a5 a6 a7 cacr acr0 acr1 vbr macsr mask acc sr pc rambar sync ";
-    let values = values_of(board);
-    let at = console::put_text(text, 0, b"state ");
-    let at = put_fields(text, at, names, &values);
+    let debug = board.debug;
+    let general = board.registers.general;
+    let control = board.registers.control;
+    let at = text::put_text(text, 0, b"state ");
+    let at = put_status(text, at, board);
+    let at = put_debug(text, at, debug);
+    let at = put_general(text, at, general);
+    let at = put_control(text, at, control);
+    let at = text::put_text(text, at, b"sync=");
+    let at = text::put_flag(text, at, board.status.sync);
+    let at = text::put_byte(text, at, b' ');
     put_place(text, at, place)
 }

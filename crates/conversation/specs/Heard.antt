@@ -9,25 +9,22 @@ use Rattle.requests.specs.declared.Request.{Request}
 use Rattle.trip.specs.Exchange.{stateThere}
 use Rattle.exchange.specs.Exchange.{exchangeVerdict}
 use Rattle.exchange.specs.Promise.{restScene}
-use Rattle.lines.specs.declared.BoardLine.{BoardLine}
-use Rattle.lines.specs.declared.TalkLine.{TalkLine}
 use Rattle.lines.specs.declared.TalkLine.the-variants.{Board as BoardAsked, Ask}
 use Rattle.lines.specs.Board.{boardLine}
-use Rattle.lines.specs.Talk.{talkLine}
+use Rattle.lines.specs.Talk.{eitherLine, talkLine}
 use Rattle.answers.specs.declared.Bench.{Bench}
 use Rattle.answers.specs.Bench.{benchOf, benchLeft, memoryLeft}
 use Rattle.conversation.specs.declared.Language.{Language}
-use Rattle.conversation.specs.declared.Language.the-variants.{StandIn, Talk, Both}
+use Rattle.conversation.specs.declared.Language.the-variants.{StandIn, Talk, Both, Pod}
+use Rattle.conversation.specs.declared.Heard.{Heard}
+use Rattle.conversation.specs.declared.Heard.the-variants.{OfBench, OfPod}
 
--- in both languages a line is a request of talk's, and else a line of stand_in's
-abbrev pub orStandIn : BoardLine → TalkLine → TalkLine
-orStandIn asked (BoardAsked line) = BoardAsked asked
-orStandIn asked (Ask request) = Ask request
-
-abbrev pub heard : Language → List ℕ → TalkLine
-heard StandIn line = BoardAsked (boardLine line)
-heard Talk line = talkLine line
-heard Both line = orStandIn (boardLine line) (talkLine line)
+-- the morning's lines are stand_in's and talk's
+abbrev pub heard : Language → List ℕ → Heard
+heard StandIn line = OfBench (BoardAsked (boardLine line))
+heard Talk line = OfBench (talkLine line)
+heard Both line = OfBench (eitherLine line)
+heard Pod line = OfPod
 
 -- "A REQUEST alone on its line is sent and its replies read": what the exchange leaves, or all as it was where it is refused
 abbrev pub boardAsked : Request → Board → Place → List ℕ → Board
@@ -43,15 +40,17 @@ memoryAsked request b p m = unless (exchangeVerdict request b p m) (stateThere r
 abbrev pub lentAsked : Request → Bench → List ℕ → List ℕ
 lentAsked request bench m = memoryAsked request (bench .board) (bench .place) (take (bench .lent) m) ++ drop (bench .lent) m
 
--- the bench and memory after a line
-abbrev pub benchTold : TalkLine → Bench → List ℕ → Bench
-benchTold (BoardAsked asked) bench m = benchLeft asked bench m
-benchTold (Ask request) bench m =
+-- the bench and memory after a line; one of the pod's leaves both as they were
+abbrev pub benchAfter : Heard → Bench → List ℕ → Bench
+benchAfter (OfBench (BoardAsked asked)) bench m = benchLeft asked bench m
+benchAfter (OfBench (Ask request)) bench m =
     benchOf
     (boardAsked request (bench .board) (bench .place) (take (bench .lent) m))
     (placeAsked request (bench .board) (bench .place) (take (bench .lent) m))
     (bench .lent)
+benchAfter OfPod bench m = bench
 
-abbrev pub memoryTold : List ℕ → TalkLine → Bench → List ℕ → List ℕ
-memoryTold line (BoardAsked asked) bench m = memoryLeft line asked bench m
-memoryTold line (Ask request) bench m = lentAsked request bench m
+abbrev pub memoryAfter : List ℕ → Heard → Bench → List ℕ → List ℕ
+memoryAfter line (OfBench (BoardAsked asked)) bench m = memoryLeft line asked bench m
+memoryAfter line (OfBench (Ask request)) bench m = lentAsked request bench m
+memoryAfter line OfPod bench m = m

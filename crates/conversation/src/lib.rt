@@ -1,16 +1,20 @@
-// A conversation with the bench: a line answered in one of the desk's languages, and line after line to the end of the input.
+// A conversation: a line answered in one of the desk's languages, and line after line to the end of the input.
 ghost use mathlib.Core.Path.{_≡_};
 ghost use Rattle.answers.specs.Bench.{benchOf};
 ghost use Rattle.lines.specs.declared.TalkLine.the-variants.{Ask};
-ghost use Rattle.conversation.specs.declared.Language.the-variants.{Both};
-ghost use Rattle.conversation.specs.Heard.{boardAsked, placeAsked, memoryAsked, lentAsked, benchTold, memoryTold, heard};
+ghost use Rattle.conversation.specs.declared.Heard.the-variants.{OfBench};
+ghost use Rattle.conversation.specs.Heard.{boardAsked, placeAsked, memoryAsked, lentAsked, heard, benchAfter, memoryAfter};
 use answers::Answered;
 use answers::Bench;
-use console::Feed;
-use console::Got;
+use console::Input;
+use console::Unread;
 use exchange::Exchanged;
 use lines::TalkLine;
 use requests::Request;
+use text::request::put_exchange;
+use text::request::put_refusal;
+
+mod pod;
 
 // Which lines are taken.
 pub enum Language {
@@ -18,18 +22,22 @@ pub enum Language {
     StandIn,
     // requests, and no `packet`
     Talk,
+    // stand_in's and talk's
     Both,
+    // the pod's half, without a board
+    Pod,
 }
 
-// What an exchange came to, with the packets sent.
+// What a line is taken for.
+pub enum Heard {
+    OfBench(TalkLine),
+    OfPod,
+}
+
 fn put_exchanged(text: &mut [u8], answer: Exchanged) -> usize {
     match answer {
-        Exchanged::Ended(outcome, packets) => {
-            let at = console::put_outcome(text, outcome);
-            let at = console::put_text(text, at, b" packets ");
-            console::put_decimal(text, at, packets)
-        }
-        Exchanged::Refused(ground) => console::put_refusal(text, ground),
+        Exchanged::Ended(outcome, packets) => put_exchange(text, outcome, packets),
+        Exchanged::Refused(ground) => put_refusal(text, ground),
     }
 }
 
@@ -48,30 +56,35 @@ fn converse(request: Request, bench: Bench, memory: &mut [u8], text: &mut [u8]) 
 
 // The exchange over the bytes lent, of those that there are.
 fn ask(request: Request, bench: Bench, memory: &mut [u8], text: &mut [u8]) -> Answered
-    ensures { λ r. ⌜ (r .bench ≡ benchTold (Ask request) bench (now (memory .entry))) × (now (memory .exit) ≡ lentAsked request bench (now (memory .entry))) ⌝ }
+    ensures { λ r. ⌜ (r .bench ≡ benchAfter (OfBench (Ask request)) bench (now (memory .entry))) × (now (memory .exit) ≡ lentAsked request bench (now (memory .entry))) ⌝ }
 {
     let n = answers::lent_of(bench.lent, memory.len());
     converse(request, bench, &mut memory[..n], text)
 }
 
-fn hear_both(line: &[u8]) -> TalkLine
-    ensures { λ r. ⌜ r ≡ heard Both (now (line .entry)) ⌝ }
-{
-    let told = lines::read_talk_line(line);
-    match told {
-        TalkLine::Board(_) => TalkLine::Board(lines::read_stand_in_line(line)),
-        TalkLine::Ask(request) => TalkLine::Ask(request),
-    }
-}
-
-// What a line is taken for.
-fn hear(language: Language, line: &[u8]) -> TalkLine
+fn hear(language: Language, line: &[u8]) -> Heard
     ensures { λ r. ⌜ r ≡ heard language (now (line .entry)) ⌝ }
 {
     match language {
-        Language::StandIn => TalkLine::Board(lines::read_stand_in_line(line)),
-        Language::Talk => lines::read_talk_line(line),
-        Language::Both => hear_both(line),
+        Language::StandIn => Heard::OfBench(TalkLine::Board(lines::read_stand_in_line(line))),
+        Language::Talk => Heard::OfBench(lines::read_talk_line(line)),
+        Language::Both => Heard::OfBench(lines::read_either_line(line)),
+        Language::Pod => Heard::OfPod,
+    }
+}
+
+fn answer_of_bench(
+    asked: TalkLine,
+    line: &[u8],
+    bench: Bench,
+    memory: &mut [u8],
+    text: &mut [u8],
+) -> Answered
+    ensures { λ r. ⌜ (r .bench ≡ benchAfter (OfBench asked) bench (now (memory .entry))) × (now (memory .exit) ≡ memoryAfter (now (line .entry)) (OfBench asked) bench (now (memory .entry))) ⌝ }
+{
+    match asked {
+        TalkLine::Board(asked) => answers::answer_line(line, asked, bench, memory, text),
+        TalkLine::Ask(request) => ask(request, bench, memory, text),
     }
 }
 
@@ -83,12 +96,15 @@ pub fn answer(
     memory: &mut [u8],
     text: &mut [u8],
 ) -> Answered
-    ensures { λ r. ⌜ (r .bench ≡ benchTold (heard language (now (line .entry))) bench (now (memory .entry))) × (now (memory .exit) ≡ memoryTold (now (line .entry)) (heard language (now (line .entry))) bench (now (memory .entry))) ⌝ }
+    ensures { λ r. ⌜ (r .bench ≡ benchAfter (heard language (now (line .entry))) bench (now (memory .entry))) × (now (memory .exit) ≡ memoryAfter (now (line .entry)) (heard language (now (line .entry))) bench (now (memory .entry))) ⌝ }
 {
-    let told = hear(language, line);
-    match told {
-        TalkLine::Board(asked) => answers::answer_line(line, asked, bench, memory, text),
-        TalkLine::Ask(request) => ask(request, bench, memory, text),
+    let meant = hear(language, line);
+    match meant {
+        Heard::OfBench(asked) => answer_of_bench(asked, line, bench, memory, text),
+        Heard::OfPod => Answered {
+            bench: bench,
+            end: pod::answer(line, text),
+        },
     }
 }
 
@@ -128,14 +144,14 @@ fn serve_front(
 // Line after line, to the end of the input. The budget of lines is never used up.
 fn run(language: Language, source: &mut [u8], line: &mut [u8], text: &mut [u8], memory: &mut [u8]) {
     let mut bench = answers::opened();
-    let mut feed = Feed { at: 0, end: 0 };
+    let mut unread = Unread { at: 0, end: 0 };
     let mut budget: u64 = 0xFFFFFFFFFFFFFFFF;
     while 0 < budget {
         budget -= 1;
-        let fed = console::next_line(source, feed, line);
-        feed = fed.feed;
-        let got = fed.got;
-        let Got::Line(length) = got else {
+        let taken = console::next_line(source, unread, line);
+        unread = taken.unread;
+        let input = taken.input;
+        let Input::Line(length) = input else {
             return;
         };
         bench = serve_front(language, line, length, bench, memory, text);

@@ -8,7 +8,7 @@ use Rattle.words.specs.Numbers.{digit, numeral}
 use Rattle.lines.specs.declared.BoardLine.the-variants.{Nothing, Make, Memory, Bytes, Packet, EventWithAccess, Peek, Unclear}
 use Rattle.lines.specs.declared.TalkLine.the-variants.{Board, Ask}
 use Rattle.lines.specs.Board.{boardLine, boardWords, boardOfNone, boardOfOne, boardOfTwo, boardOfFour, hexLine}
-use Rattle.lines.specs.Talk.{talkLine}
+use Rattle.lines.specs.Talk.{eitherLine, talkLine}
 use Rattle.lines.specs.Requests.{plainRequest, requestOfOne, requestOfTwo}
 use Rattle.lines.specs.Pod.{podMeaning, podWords, builds, reads, unclear}
 
@@ -94,12 +94,12 @@ packet-on-the-board = refl
 
 -- `packet 1FFFF`
 pub packet-in-talk : talkLine (112 ∷ 97 ∷ 99 ∷ 107 ∷ 101 ∷ 116 ∷ 32 ∷ 49 ∷ 70 ∷ 70 ∷ 70 ∷ 70 ∷ []) ≡ Board Unclear
-unfolding boardLine kindOf boardWords numeral digit boardOfNone boardOfOne boardOfTwo boardOfFour hexLine talkLine plainRequest requestOfOne requestOfTwo
+unfolding boardLine kindOf boardWords numeral digit boardOfNone boardOfOne boardOfTwo boardOfFour hexLine eitherLine plainRequest requestOfOne requestOfTwo
 packet-in-talk = refl
 
 -- `write.w A 5`
 pub request-in-talk : talkLine (119 ∷ 114 ∷ 105 ∷ 116 ∷ 101 ∷ 46 ∷ 119 ∷ 32 ∷ 65 ∷ 32 ∷ 53 ∷ []) ≡ Ask (Write Word 10 5)
-unfolding boardLine kindOf boardWords numeral digit boardOfNone boardOfOne boardOfTwo boardOfFour hexLine talkLine plainRequest requestOfOne requestOfTwo
+unfolding boardLine kindOf boardWords numeral digit boardOfNone boardOfOne boardOfTwo boardOfFour hexLine eitherLine plainRequest requestOfOne requestOfTwo
 request-in-talk = refl
 
 -- `build sync_pc`

@@ -3,22 +3,16 @@ use Prim.Native.Nat.{ℕ}
 use mathlib.Core.Path.{_≡_, refl, sym, _∙_}
 use mathlib.Core.Bool.{Bool, true, false, cond}
 use mathlib.Core.List.{List, [], _∷_}
-use lib.ListN.{length}
 use mathlib.Core.Logic.{_⊎_, inl, inr}
-use Rattle.words.specs.declared.LineKind.{LineKind}
-use Rattle.words.specs.declared.LineKind.the-variants.{Silent, Clear, TooLong}
-use Rattle.words.specs.Words.{kindOf, words, same}
+use Rattle.words.specs.Words.{same}
 use Rattle.words.specs.WordLaws.{same-equal}
-use Rattle.lines.specs.declared.Asked.{Asked}
-use Rattle.lines.specs.declared.Asked.the-variants.{For, NoRequest}
 use Rattle.lines.specs.declared.BoardLine.{BoardLine}
 use Rattle.lines.specs.declared.BoardLine.the-variants.{Nothing, Make, Memory, Bytes, Packet, Event, EventWithAccess, Breakpoint, Peek, State, Unclear}
 use Rattle.lines.specs.declared.TalkLine.{TalkLine}
 use Rattle.lines.specs.declared.TalkLine.the-variants.{Board, Ask}
 use Rattle.lines.specs.Table.{Row, found}
-use Rattle.lines.specs.Board.{boardLine, boardWords}
-use Rattle.lines.specs.Requests.{requestOf}
-use Rattle.lines.specs.Talk.{withoutPacket, askedOr, talkAt, talkLine}
+use Rattle.lines.specs.Board.{boardLine}
+use Rattle.lines.specs.Talk.{withoutPacket, talkOf, eitherLine, talkLine}
 
 -- no second answer fits a line
 pub board-unique : (line : List ℕ) (r s : BoardLine) → r ≡ boardLine line → s ≡ boardLine line → r ≡ s
@@ -70,15 +64,9 @@ no-packet-left (Peek a n) = refl
 no-packet-left State = refl
 no-packet-left Unclear = refl
 
-asked-no-packet : (asked : Asked) (b : BoardLine) → isPacket (askedOr asked b) ≡ false
-asked-no-packet (For request) b = refl
-asked-no-packet NoRequest b = no-packet-left b
-
-kind-no-packet : (kind : LineKind) (line : List ℕ) → isPacket (talkAt kind line) ≡ false
-kind-no-packet Silent line = refl
-kind-no-packet Clear line = asked-no-packet (requestOf (words line)) (boardWords (length line) (words line))
-kind-no-packet TooLong line = refl
+either-no-packet : (line : TalkLine) → isPacket (talkOf line) ≡ false
+either-no-packet (Board line) = no-packet-left line
+either-no-packet (Ask request) = refl
 
 pub talk-has-no-packet : (line : List ℕ) → isPacket (talkLine line) ≡ false
-unfolding talkLine
-talk-has-no-packet line = kind-no-packet (kindOf line) line
+talk-has-no-packet line = either-no-packet (eitherLine line)

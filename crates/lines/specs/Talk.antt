@@ -28,15 +28,22 @@ withoutPacket (Peek a n) = Peek a n
 withoutPacket State = State
 withoutPacket Unclear = Unclear
 
--- "A REQUEST alone on its line"
+-- "A REQUEST alone on its line", or else a line of `stand_in`
 abbrev pub askedOr : Asked → BoardLine → TalkLine
 askedOr (For request) line = Ask request
-askedOr NoRequest line = Board (withoutPacket line)
+askedOr NoRequest line = Board line
 
-abbrev pub talkAt : LineKind → List ℕ → TalkLine
-talkAt Silent line = Board Nothing
-talkAt Clear line = askedOr (requestOf (words line)) (boardWords (length line) (words line))
-talkAt TooLong line = Board Unclear
+abbrev pub eitherAt : LineKind → List ℕ → TalkLine
+eitherAt Silent line = Board Nothing
+eitherAt Clear line = askedOr (requestOf (words line)) (boardWords (length line) (words line))
+eitherAt TooLong line = Board Unclear
 
-unfoldable pub talkLine : List ℕ → TalkLine
-talkLine line = talkAt (kindOf line) line
+unfoldable pub eitherLine : List ℕ → TalkLine
+eitherLine line = eitherAt (kindOf line) line
+
+abbrev pub talkOf : TalkLine → TalkLine
+talkOf (Board line) = Board (withoutPacket line)
+talkOf (Ask request) = Ask request
+
+abbrev pub talkLine : List ℕ → TalkLine
+talkLine line = talkOf (eitherLine line)

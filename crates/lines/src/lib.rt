@@ -1,7 +1,7 @@
 // The desk's language: what each line asks.
 ghost use mathlib.Core.Path.{_≡_};
 ghost use Rattle.lines.specs.Board.{boardLine};
-ghost use Rattle.lines.specs.Talk.{withoutPacket, askedOr, talkLine};
+ghost use Rattle.lines.specs.Talk.{withoutPacket, askedOr, eitherLine, talkLine};
 use requests::Request;
 use words::LineKind;
 
@@ -30,7 +30,7 @@ pub enum BoardLine {
     Unclear,
 }
 
-// A line of `talk`: one of the board's, never a packet, or a request.
+// A line of `stand_in` or a request; in `talk` never a packet.
 pub enum TalkLine {
     Board(BoardLine),
     Ask(Request),
@@ -93,16 +93,26 @@ fn ask_or(asked: Asked, line: BoardLine) -> TalkLine
 {
     match asked {
         Asked::For(request) => TalkLine::Ask(request),
-        Asked::NoRequest => TalkLine::Board(leave_out_packet(line)),
+        Asked::NoRequest => TalkLine::Board(line),
+    }
+}
+
+// A request alone on its line, or else a line of `stand_in`.
+pub fn read_either_line(line: &[u8]) -> TalkLine
+    ensures { λ r. ⌜ r ≡ eitherLine (now (line .entry)) ⌝ }
+{
+    match words::kind_of(line) {
+        LineKind::Silent => TalkLine::Board(BoardLine::Nothing),
+        LineKind::Clear => ask_or(request::read_alone(line), board::read_words(line)),
+        LineKind::TooLong => TalkLine::Board(BoardLine::Unclear),
     }
 }
 
 pub fn read_talk_line(line: &[u8]) -> TalkLine
     ensures { λ r. ⌜ r ≡ talkLine (now (line .entry)) ⌝ }
 {
-    match words::kind_of(line) {
-        LineKind::Silent => TalkLine::Board(BoardLine::Nothing),
-        LineKind::Clear => ask_or(request::read_alone(line), board::read_words(line)),
-        LineKind::TooLong => TalkLine::Board(BoardLine::Unclear),
+    match read_either_line(line) {
+        TalkLine::Board(asked) => TalkLine::Board(leave_out_packet(asked)),
+        TalkLine::Ask(request) => TalkLine::Ask(request),
     }
 }

@@ -5,18 +5,19 @@ use conversation::Language;
 ghost use Prim.Native.Nat.{_≤_};
 ghost use lib.ListN.{length};
 
-fn put_comma(text: &mut [u8], at: usize) -> usize {
+// Between what is gathered and what comes next.
+pub fn put_comma(text: &mut [u8], at: usize) -> usize {
     if 0 < at {
-        return console::put_text(text, at, b", ");
+        return text::put_text(text, at, b", ");
     }
     at
 }
 
 // A part of a text behind what is gathered.
-pub fn put_next(text: &mut [u8], at: usize, part: &[u8], end: usize) -> usize {
+fn put_next(text: &mut [u8], at: usize, part: &[u8], end: usize) -> usize {
     let to = put_comma(text, at);
     if end <= part.len() {
-        return console::put_text(text, to, &part[..end]);
+        return text::put_text(text, to, &part[..end]);
     }
     to
 }

@@ -66,11 +66,8 @@ tell-state-requires c κs = search needs
 enum-told-4 : tie.Need-enum-told-4
 enum-told-4 c = search needs
 
-slice-aggregate-put-text : tie.Need-slice-aggregate-put-text
-slice-aggregate-put-text c = search needs
-
-put-text-requires : tie.Need-put-text-requires
-put-text-requires c κs = search needs
+put-unclear-requires : tie.Need-put-unclear-requires
+put-unclear-requires c κs = search needs
 
 returns : tie.Need-returns
 returns c = rw (c .enum-told .given .1) (refl, refl)
@@ -145,7 +142,7 @@ same-length-14 : tie.Need-same-length-14
 same-length-14 c = search needs
 
 returns-11 : tie.Need-returns-11
-returns-11 c = rw (c .before .before .before .before .before .enum-told4 .given .1) (refl, refl)
+returns-11 c = rw (c .before .before .before .before .enum-told4 .given .1) (refl, refl)
 
 pub answer-line-spec : {M : Type 1} → statement M
 answer-line-spec =
@@ -172,8 +169,7 @@ answer-line-spec =
     enum-told-3
     tell-state-requires
     enum-told-4
-    slice-aggregate-put-text
-    put-text-requires
+    put-unclear-requires
     returns
     same-length
     returns-2

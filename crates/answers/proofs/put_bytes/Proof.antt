@@ -15,9 +15,6 @@ slice-aggregate-put-text c = search needs
 put-text-requires : tie.Need-put-text-requires
 put-text-requires c κs = search needs
 
-cast-put-number : tie.Need-cast-put-number
-cast-put-number c = search needs
-
 put-number-requires : tie.Need-put-number-requires
 put-number-requires c κs = search needs
 
@@ -30,17 +27,14 @@ same-length-2 c = search needs
 returns : tie.Need-returns
 returns c = (refl, rw (← c .before .before .before .before .before .before .before .before .before .before .before .before .before .before .is-lent .ensures, c .before .before .before .before .before .before .before .before .before .before .before .before .before .if1 .taken) (c .before .before .before .before .before .before .before .before .before .before .before .copy-bytes .ensures))
 
-slice-aggregate-put-text-2 : tie.Need-slice-aggregate-put-text-2
-slice-aggregate-put-text-2 c = search needs
-
-put-text-requires-2 : tie.Need-put-text-requires-2
-put-text-requires-2 c κs = search needs
+put-unclear-requires : tie.Need-put-unclear-requires
+put-unclear-requires c κs = search needs
 
 same-length-3 : tie.Need-same-length-3
 same-length-3 c = search needs
 
 returns-2 : tie.Need-returns-2
-returns-2 c = (refl, rw (← c .before .before .before .before .before .before .is-lent .ensures, c .before .before .before .before .before .if1 .left))
+returns-2 c = (refl, rw (← c .before .before .before .before .before .is-lent .ensures, c .before .before .before .before .if1 .left))
 
 pub put-bytes-spec : {M : Type 1} → statement M
 put-bytes-spec =
@@ -50,12 +44,10 @@ put-bytes-spec =
     copy-bytes-requires
     slice-aggregate-put-text
     put-text-requires
-    cast-put-number
     put-number-requires
     same-length
     same-length-2
     returns
-    slice-aggregate-put-text-2
-    put-text-requires-2
+    put-unclear-requires
     same-length-3
     returns-2)

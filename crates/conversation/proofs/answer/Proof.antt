@@ -1,3 +1,4 @@
+use mathlib.Core.Path.{refl}
 use borrow.Author.Needs.{needs}
 use Rattle.conversation.proofs.answer.Statement.{statement}
 use Rattle.conversation.proofs.answer.Tie as tie
@@ -5,17 +6,17 @@ use Rattle.conversation.proofs.answer.Tie as tie
 hear-requires : tie.Need-hear-requires
 hear-requires c κs = search needs
 
-enum-known-told : tie.Need-enum-known-told
-enum-known-told c = search needs
+enum-known-meant : tie.Need-enum-known-meant
+enum-known-meant c = search needs
 
-answer-line-requires : tie.Need-answer-line-requires
-answer-line-requires c κs = search needs
+answer-of-bench-requires : tie.Need-answer-of-bench-requires
+answer-of-bench-requires c κs = search needs
 
-enum-known-told-2 : tie.Need-enum-known-told-2
-enum-known-told-2 c = search needs
+enum-told : tie.Need-enum-told
+enum-told c = search needs
 
-ask-requires : tie.Need-ask-requires
-ask-requires c κs = search needs
+answer-requires : tie.Need-answer-requires
+answer-requires c κs = search needs
 
 same-length : tie.Need-same-length
 same-length c = search needs
@@ -24,29 +25,25 @@ same-length-2 : tie.Need-same-length-2
 same-length-2 c = search needs
 
 returns : tie.Need-returns
-returns c = rw (← c .before .before .before .before .before .before .before .before .before .before .hear .ensures, c .before .before .before .before .before .before .before .before .told .given .1) (c .before .before .before .before .answer-line .ensures)
+returns c = rw (← c .before .before .before .before .before .before .before .before .before .before .hear .ensures, c .before .before .before .before .before .before .before .before .meant .given .1) (c .before .before .before .before .answer-of-bench .ensures)
 
 same-length-3 : tie.Need-same-length-3
 same-length-3 c = search needs
 
-same-length-4 : tie.Need-same-length-4
-same-length-4 c = search needs
-
 returns-2 : tie.Need-returns-2
-returns-2 c = rw (← c .before .before .before .before .before .before .before .before .before .before .hear .ensures, c .before .before .before .before .before .before .before .before .told2 .given .1) (c .before .before .before .before .ask .ensures)
+returns-2 c = rw (← c .before .before .before .before .before .before .hear .ensures, c .before .before .before .before .enum-told .given .1) (refl, refl)
 
 pub answer-spec : {M : Type 1} → statement M
 answer-spec =
     tie.close
     (tie.spec
     hear-requires
-    enum-known-told
-    answer-line-requires
-    enum-known-told-2
-    ask-requires
+    enum-known-meant
+    answer-of-bench-requires
+    enum-told
+    answer-requires
     same-length
     same-length-2
     returns
     same-length-3
-    same-length-4
     returns-2)

@@ -17,17 +17,23 @@ read-talk-line-requires c κs = search needs
 enum-told-3 : tie.Need-enum-told-3
 enum-told-3 c = search needs
 
-hear-both-requires : tie.Need-hear-both-requires
-hear-both-requires c κs = search needs
+read-either-line-requires : tie.Need-read-either-line-requires
+read-either-line-requires c κs = search needs
+
+enum-told-4 : tie.Need-enum-told-4
+enum-told-4 c = search needs
 
 returns : tie.Need-returns
 returns c = rw (c .before .enum-told .given .1, c .read-stand-in-line .ensures)
 
 returns-2 : tie.Need-returns-2
-returns-2 c = rw (c .before .enum-told2 .given .1) (c .read-talk-line .ensures)
+returns-2 c = rw (c .before .enum-told2 .given .1, c .read-talk-line .ensures)
 
 returns-3 : tie.Need-returns-3
-returns-3 c = rw (c .before .enum-told3 .given .1) (c .hear-both .ensures)
+returns-3 c = rw (c .before .enum-told3 .given .1, c .read-either-line .ensures)
+
+returns-4 : tie.Need-returns-4
+returns-4 c = search needs
 
 pub hear-spec : {M : Type 1} → statement M
 hear-spec =
@@ -38,7 +44,9 @@ hear-spec =
     enum-told-2
     read-talk-line-requires
     enum-told-3
-    hear-both-requires
+    read-either-line-requires
+    enum-told-4
     returns
     returns-2
-    returns-3)
+    returns-3
+    returns-4)

@@ -6,10 +6,10 @@ use Rattle.conversation.proofs.run.Statement.{statement}
 use Rattle.conversation.proofs.run.Tie as tie
 
 abbrev Inv-loop : tie.InvT-loop
-Inv-loop language₀ source₀ line₀ text₀ memory₀ bench₀ feed₀ budget₀ source line text memory bench feed budget = (length source ≡ length source₀) × (length line ≡ length line₀) × (length text ≡ length text₀) × (length memory ≡ length memory₀)
+Inv-loop language₀ source₀ line₀ text₀ memory₀ bench₀ unread₀ budget₀ source line text memory bench unread budget = (length source ≡ length source₀) × (length line ≡ length line₀) × (length text ≡ length text₀) × (length memory ≡ length memory₀)
 
 abbrev μ-loop : tie.MeasureT-loop
-μ-loop language₀ source₀ line₀ text₀ memory₀ bench₀ feed₀ budget₀ source line text memory bench feed budget = budget
+μ-loop language₀ source₀ line₀ text₀ memory₀ bench₀ unread₀ budget₀ source line text memory bench unread budget = budget
 
 opened-requires : tie.Need-opened-requires Inv-loop μ-loop
 opened-requires c κs = search needs
@@ -23,8 +23,8 @@ sub-budget c = search needs
 next-line-requires : tie.Need-next-line-requires Inv-loop μ-loop
 next-line-requires c κs = search needs
 
-enum-known-got : tie.Need-enum-known-got Inv-loop μ-loop
-enum-known-got c = search needs
+enum-known-input : tie.Need-enum-known-input Inv-loop μ-loop
+enum-known-input c = search needs
 
 enum-told : tie.Need-enum-told Inv-loop μ-loop
 enum-told c = search needs
@@ -78,7 +78,7 @@ run-spec =
     loop-holds
     sub-budget
     next-line-requires
-    enum-known-got
+    enum-known-input
     enum-told
     same-length
     same-length-2

@@ -8,15 +8,11 @@ enum-known-asked c = search needs
 enum-told : tie.Need-enum-told
 enum-told c = search needs
 
-leave-out-packet-requires : tie.Need-leave-out-packet-requires
-leave-out-packet-requires c κs = search needs
-
 returns : tie.Need-returns
 returns c = rw (c .before .asked .given .1)
 
 returns-2 : tie.Need-returns-2
-returns-2 c = rw (c .before .enum-told .given .1, ← c .leave-out-packet .ensures)
+returns-2 c = rw (c .enum-told .given .1)
 
 pub ask-or-spec : {M : Type 1} → statement M
-ask-or-spec =
-    tie.close (tie.spec enum-known-asked enum-told leave-out-packet-requires returns returns-2)
+ask-or-spec = tie.close (tie.spec enum-known-asked enum-told returns returns-2)

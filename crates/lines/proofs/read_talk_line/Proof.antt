@@ -1,52 +1,32 @@
-use Rattle.lines.specs.Talk.{talkLine}
 use borrow.Author.Needs.{needs}
 use Rattle.lines.proofs.read_talk_line.Statement.{statement}
 use Rattle.lines.proofs.read_talk_line.Tie as tie
 
-kind-of-requires : tie.Need-kind-of-requires
-kind-of-requires c κs = search needs
+read-either-line-requires : tie.Need-read-either-line-requires
+read-either-line-requires c κs = search needs
 
-enum-told : tie.Need-enum-told
-enum-told c = search needs
+enum-known-asked : tie.Need-enum-known-asked
+enum-known-asked c = search needs
 
-enum-told-2 : tie.Need-enum-told-2
-enum-told-2 c = search needs
+leave-out-packet-requires : tie.Need-leave-out-packet-requires
+leave-out-packet-requires c κs = search needs
 
-read-alone-requires : tie.Need-read-alone-requires
-read-alone-requires c κs = search needs
-
-read-words-requires : tie.Need-read-words-requires
-read-words-requires c κs = search needs
-
-ask-or-requires : tie.Need-ask-or-requires
-ask-or-requires c κs = search needs
-
-enum-told-3 : tie.Need-enum-told-3
-enum-told-3 c = search needs
+enum-known-request : tie.Need-enum-known-request
+enum-known-request c = search needs
 
 returns : tie.Need-returns
-unfolding talkLine
-returns c = rw (← c .before .before .kind-of .ensures, c .enum-told .given .1)
+returns c = rw (← c .before .before .before .before .read-either-line .ensures, c .before .before .asked .given .1, ← c .leave-out-packet .ensures)
 
 returns-2 : tie.Need-returns-2
-unfolding talkLine
-returns-2 c = rw (← c .before .before .before .before .before .kind-of .ensures, c .before .before .before .enum-told2 .given .1, ← c .before .before .read-alone .ensures, ← c .before .read-words .ensures, ← c .ask-or .ensures)
-
-returns-3 : tie.Need-returns-3
-unfolding talkLine
-returns-3 c = rw (← c .before .before .kind-of .ensures, c .enum-told3 .given .1)
+returns-2 c = rw (← c .before .before .before .read-either-line .ensures, c .before .request .given .1)
 
 pub read-talk-line-spec : {M : Type 1} → statement M
 read-talk-line-spec =
     tie.close
     (tie.spec
-    kind-of-requires
-    enum-told
-    enum-told-2
-    read-alone-requires
-    read-words-requires
-    ask-or-requires
-    enum-told-3
+    read-either-line-requires
+    enum-known-asked
+    leave-out-packet-requires
+    enum-known-request
     returns
-    returns-2
-    returns-3)
+    returns-2)

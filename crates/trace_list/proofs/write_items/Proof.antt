@@ -1,14 +1,12 @@
--- The loop's invariant: the place in the text stays within it.
-use borrow.Author.Needs.{needs}
-use mathlib.Core.Path.{_≡_, sym}
-use Prim.Native.Nat.{_-_, _≤_}
+use Prim.Native.Nat.{_≤_, _-_}
 use lib.ListN.{length}
-use lib.Seq.{length-take-le}
+use mathlib.Core.Path.{_≡_}
+use borrow.Author.Needs.{needs}
 use Rattle.trace_list.proofs.write_items.Statement.{statement}
 use Rattle.trace_list.proofs.write_items.Tie as tie
 
 abbrev Inv-loop : tie.InvT-loop
-Inv-loop words text₀ at₀ items k₀ text at k = (k ≤ items) × (length text ≡ length text₀) × (at ≤ length text)
+Inv-loop words text₀ at₀ items k₀ text at k = (k ≤ items) × (length text ≡ length text₀)
 
 abbrev μ-loop : tie.MeasureT-loop
 μ-loop words text₀ at₀ items k₀ text at k = items - k
@@ -19,29 +17,32 @@ loop-holds c = search needs
 make-room-requires : tie.Need-make-room-requires Inv-loop μ-loop
 make-room-requires c κs = search needs
 
-mul-put-line : tie.Need-mul-put-line Inv-loop μ-loop
-mul-put-line c = search needs
+mul-put-item : tie.Need-mul-put-item Inv-loop μ-loop
+mul-put-item c = search needs
 
-mul-put-line-2 : tie.Need-mul-put-line-2 Inv-loop μ-loop
-mul-put-line-2 c = search needs
+mul-put-item-2 : tie.Need-mul-put-item-2 Inv-loop μ-loop
+mul-put-item-2 c = search needs
 
-shared-slice-read-put-line : tie.Need-shared-slice-read-put-line Inv-loop μ-loop
-shared-slice-read-put-line c = search needs
+shared-slice-read-put-item : tie.Need-shared-slice-read-put-item Inv-loop μ-loop
+shared-slice-read-put-item c = search needs
 
-mul-put-line-3 : tie.Need-mul-put-line-3 Inv-loop μ-loop
-mul-put-line-3 c = search needs
+mul-put-item-3 : tie.Need-mul-put-item-3 Inv-loop μ-loop
+mul-put-item-3 c = search needs
 
-add-put-line : tie.Need-add-put-line Inv-loop μ-loop
-add-put-line c = search needs
+add-put-item : tie.Need-add-put-item Inv-loop μ-loop
+add-put-item c = search needs
 
-mul-put-line-4 : tie.Need-mul-put-line-4 Inv-loop μ-loop
-mul-put-line-4 c = search needs
+mul-put-item-4 : tie.Need-mul-put-item-4 Inv-loop μ-loop
+mul-put-item-4 c = search needs
 
-shared-slice-read-put-line-2 : tie.Need-shared-slice-read-put-line-2 Inv-loop μ-loop
-shared-slice-read-put-line-2 c = search needs
+shared-slice-read-put-item-2 : tie.Need-shared-slice-read-put-item-2 Inv-loop μ-loop
+shared-slice-read-put-item-2 c = search needs
 
-put-line-requires : tie.Need-put-line-requires Inv-loop μ-loop
-put-line-requires c κs = search needs
+put-item-requires : tie.Need-put-item-requires Inv-loop μ-loop
+put-item-requires c κs = search needs
+
+put-byte-requires : tie.Need-put-byte-requires Inv-loop μ-loop
+put-byte-requires c κs = search needs
 
 add-k : tie.Need-add-k Inv-loop μ-loop
 add-k c = search needs
@@ -52,14 +53,8 @@ loop-less c = search needs
 loop-again : tie.Need-loop-again Inv-loop μ-loop
 loop-again c = search needs
 
-slice-reshare-prefix-write-all : tie.Need-slice-reshare-prefix-write-all Inv-loop μ-loop
-slice-reshare-prefix-write-all c = search needs
-
-slice-aggregate-write-all : tie.Need-slice-aggregate-write-all Inv-loop μ-loop
-slice-aggregate-write-all c = sym (length-take-le _ _ (search needs))
-
-write-all-requires : tie.Need-write-all-requires Inv-loop μ-loop
-write-all-requires c κs = search needs
+write-requires : tie.Need-write-requires Inv-loop μ-loop
+write-requires c κs = search needs
 
 same-length : tie.Need-same-length Inv-loop μ-loop
 same-length c = search needs
@@ -75,19 +70,18 @@ write-items-spec =
     μ-loop
     loop-holds
     make-room-requires
-    mul-put-line
-    mul-put-line-2
-    shared-slice-read-put-line
-    mul-put-line-3
-    add-put-line
-    mul-put-line-4
-    shared-slice-read-put-line-2
-    put-line-requires
+    mul-put-item
+    mul-put-item-2
+    shared-slice-read-put-item
+    mul-put-item-3
+    add-put-item
+    mul-put-item-4
+    shared-slice-read-put-item-2
+    put-item-requires
+    put-byte-requires
     add-k
     loop-less
     loop-again
-    slice-reshare-prefix-write-all
-    slice-aggregate-write-all
-    write-all-requires
+    write-requires
     same-length
     returns)

@@ -6,10 +6,10 @@ use Rattle.answers.proofs.state.put_fields.Statement.{statement}
 use Rattle.answers.proofs.state.put_fields.Tie as tie
 
 abbrev Inv-loop : tie.InvT-loop
-Inv-loop text₀ at names values to₀ field₀ i₀ text to field i = (i ≤ length names) × (length text ≡ length text₀)
+Inv-loop text₀ at form values to₀ next₀ i₀ text to next i = (i ≤ length form) × (length text ≡ length text₀)
 
 abbrev μ-loop : tie.MeasureT-loop
-μ-loop text₀ at names values to₀ field₀ i₀ text to field i = length names - i
+μ-loop text₀ at form values to₀ next₀ i₀ text to next i = length form - i
 
 loop-holds : tie.Need-loop-holds Inv-loop μ-loop
 loop-holds c = search needs

@@ -14,29 +14,32 @@ abbrev μ-loop : tie.MeasureT-loop
 loop-holds : tie.Need-loop-holds Inv-loop μ-loop
 loop-holds c = search needs
 
-mul-put-next-item : tie.Need-mul-put-next-item Inv-loop μ-loop
-mul-put-next-item c = search needs
+put-comma-requires : tie.Need-put-comma-requires Inv-loop μ-loop
+put-comma-requires c κs = search needs
 
-mul-put-next-item-2 : tie.Need-mul-put-next-item-2 Inv-loop μ-loop
-mul-put-next-item-2 c = search needs
+mul-put-item : tie.Need-mul-put-item Inv-loop μ-loop
+mul-put-item c = search needs
 
-shared-slice-read-put-next-item : tie.Need-shared-slice-read-put-next-item Inv-loop μ-loop
-shared-slice-read-put-next-item c = search needs
+mul-put-item-2 : tie.Need-mul-put-item-2 Inv-loop μ-loop
+mul-put-item-2 c = search needs
 
-mul-put-next-item-3 : tie.Need-mul-put-next-item-3 Inv-loop μ-loop
-mul-put-next-item-3 c = search needs
+shared-slice-read-put-item : tie.Need-shared-slice-read-put-item Inv-loop μ-loop
+shared-slice-read-put-item c = search needs
 
-add-put-next-item : tie.Need-add-put-next-item Inv-loop μ-loop
-add-put-next-item c = search needs
+mul-put-item-3 : tie.Need-mul-put-item-3 Inv-loop μ-loop
+mul-put-item-3 c = search needs
 
-mul-put-next-item-4 : tie.Need-mul-put-next-item-4 Inv-loop μ-loop
-mul-put-next-item-4 c = search needs
+add-put-item : tie.Need-add-put-item Inv-loop μ-loop
+add-put-item c = search needs
 
-shared-slice-read-put-next-item-2 : tie.Need-shared-slice-read-put-next-item-2 Inv-loop μ-loop
-shared-slice-read-put-next-item-2 c = search needs
+mul-put-item-4 : tie.Need-mul-put-item-4 Inv-loop μ-loop
+mul-put-item-4 c = search needs
 
-put-next-item-requires : tie.Need-put-next-item-requires Inv-loop μ-loop
-put-next-item-requires c κs = search needs
+shared-slice-read-put-item-2 : tie.Need-shared-slice-read-put-item-2 Inv-loop μ-loop
+shared-slice-read-put-item-2 c = search needs
+
+put-item-requires : tie.Need-put-item-requires Inv-loop μ-loop
+put-item-requires c κs = search needs
 
 add-k : tie.Need-add-k Inv-loop μ-loop
 add-k c = search needs
@@ -60,14 +63,15 @@ put-items-spec =
     Inv-loop
     μ-loop
     loop-holds
-    mul-put-next-item
-    mul-put-next-item-2
-    shared-slice-read-put-next-item
-    mul-put-next-item-3
-    add-put-next-item
-    mul-put-next-item-4
-    shared-slice-read-put-next-item-2
-    put-next-item-requires
+    put-comma-requires
+    mul-put-item
+    mul-put-item-2
+    shared-slice-read-put-item
+    mul-put-item-3
+    add-put-item
+    mul-put-item-4
+    shared-slice-read-put-item-2
+    put-item-requires
     add-k
     loop-less
     loop-again

@@ -10,8 +10,8 @@ list-trace-requires c κs = search needs
 enum-known-ground : tie.Need-enum-known-ground
 enum-known-ground c = search needs
 
-put-refused-requires : tie.Need-put-refused-requires
-put-refused-requires c κs = search needs
+put-refusal-at-requires : tie.Need-put-refusal-at-requires
+put-refusal-at-requires c κs = search needs
 
 enum-known-items : tie.Need-enum-known-items
 enum-known-items c = search needs
@@ -64,7 +64,7 @@ put-listing-spec =
     (tie.spec
     list-trace-requires
     enum-known-ground
-    put-refused-requires
+    put-refusal-at-requires
     enum-known-items
     put-head-requires
     mul-end

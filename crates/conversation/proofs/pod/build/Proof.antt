@@ -1,8 +1,8 @@
 use lib.ListN.{length-take}
 use native.Mathlib.Omega.{arith}
 use borrow.Author.Needs.{needs}
-use Rattle.pod.proofs.build.Statement.{statement}
-use Rattle.pod.proofs.build.Tie as tie
+use Rattle.conversation.proofs.pod.build.Statement.{statement}
+use Rattle.conversation.proofs.pod.build.Tie as tie
 
 slice-aggregate-build : tie.Need-slice-aggregate-build
 slice-aggregate-build c = search needs

@@ -1,0 +1,41 @@
+// The pod's half: requests built and replies read (the desk's language, `pod`).
+use lines::PodLine;
+use requests::Built;
+use requests::Request;
+use text::request::put_reading;
+use text::request::put_refusal;
+use text::request::put_unclear;
+use text::request::put_words;
+
+fn build(request: Request, text: &mut [u8]) -> usize {
+    let mut buffer = [0u32; 5];
+    match requests::build(request, &mut buffer) {
+        Built::Words(count) => {
+            if count <= 5 {
+                return put_words(text, &buffer[..count]);
+            }
+            0
+        }
+        Built::Refused(ground) => put_refusal(text, ground),
+    }
+}
+
+// What so many replies, those at the front, bring.
+fn read(request: Request, replies: &[u32], count: usize, text: &mut [u8]) -> usize {
+    if count <= replies.len() {
+        return put_reading(text, requests::read(request, &replies[..count]));
+    }
+    0
+}
+
+// Where the answer to a line ends in the text; 0 where none is due. No line has more than 2,048 replies.
+pub fn answer(line: &[u8], text: &mut [u8]) -> usize {
+    let mut replies = [0u32; 2048];
+    match lines::read_pod_line(line, &mut replies) {
+        PodLine::Nothing => 0,
+        PodLine::Build(request) => build(request, text),
+        PodLine::Read(request, count) => read(request, &replies, count, text),
+        PodLine::BufferTooShort => put_unclear(text),
+        PodLine::Unclear => put_unclear(text),
+    }
+}
