@@ -16,8 +16,9 @@ fn write_under(verdict: &[u8], title: &[u8], came: &[u8]) {
     put(b"\n");
 }
 
-fn write_lines(number: &[u8], title: &[u8], due: &[u8], came: &[u8], good: bool) {
-    put(number);
+fn write_lines(number: u32, title: &[u8], due: &[u8], came: &[u8], good: bool) {
+    put(b"P");
+    io::print_decimal(STDOUT_FILENO, number as u64);
     if good {
         write_under(b" good: ", title, came);
         return;
@@ -29,12 +30,31 @@ fn write_lines(number: &[u8], title: &[u8], due: &[u8], came: &[u8], good: bool)
 }
 
 // A check's lines; good is what came out as it is due, and nothing else.
-pub fn write_check(number: &[u8], title: &[u8], due: &[u8], came: &[u8]) -> bool
+fn write_check(number: u32, title: &[u8], due: &[u8], came: &[u8]) -> bool
     ensures { λ r. ⌜ (r ≡ true → now (came .entry) ≡ now (due .entry)) × (now (came .entry) ≡ now (due .entry) → r ≡ true) ⌝ }
 {
     let good = check::same(came, due);
     write_lines(number, title, due, came, good);
     good
+}
+
+// One more, of nine at most.
+fn counted(bad: u32, good: bool) -> u32 {
+    if !good {
+        if bad < 9 {
+            return bad + 1;
+        }
+        return 9;
+    }
+    bad
+}
+
+// What came out stands at the front of the text; how many were bad with this check.
+pub fn judge(number: u32, title: &[u8], due: &[u8], text: &[u8], end: usize, bad: u32) -> u32 {
+    if end <= text.len() {
+        return counted(bad, write_check(number, title, due, &text[..end]));
+    }
+    counted(bad, write_check(number, title, due, b""))
 }
 
 // Big letters, and a last line.

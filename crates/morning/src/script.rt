@@ -1,8 +1,9 @@
-// Lines of the desk's language taken one after another, and what came out: their answers, parted by a comma and a space.
-use answers::Answered;
+// A script of checks, its lines marked: `*` a title, which begins a check, `-` a line of the desk's language that prepares it, `+` one whose answer
+// is shown, `=` what is due. What came out is the answers shown, parted by a comma and a space.
+use crate::page;
 use answers::Bench;
 use conversation::Language;
-ghost use Prim.Native.Nat.{_≤_};
+ghost use Prim.Native.Nat.{_≤_, _<_};
 ghost use lib.ListN.{length};
 
 // Between what is gathered and what comes next.
@@ -22,14 +23,80 @@ fn put_next(text: &mut [u8], at: usize, part: &[u8], end: usize) -> usize {
     to
 }
 
-fn take_line(line: &[u8], bench: Bench, memory: &mut [u8], text: &mut [u8], at: usize) -> Answered {
+// The check at hand: its number, where in the script its title stands, where in the text what came out ends. How many were bad before it.
+struct Checked {
+    bench: Bench,
+    number: u32,
+    title: usize,
+    title_end: usize,
+    came: usize,
+    bad: u32,
+}
+
+fn take_line(
+    line: &[u8],
+    is_shown: bool,
+    so_far: Checked,
+    memory: &mut [u8],
+    text: &mut [u8],
+) -> Checked {
+    let bench = so_far.bench;
     let mut answer = [0u8; 4096];
     let answered = conversation::answer(Language::Both, line, bench, memory, &mut answer);
     let after = answered.bench;
     let end = answered.end;
-    Answered {
+    if is_shown {
+        return Checked {
+            bench: after,
+            came: put_next(text, so_far.came, &answer, end),
+            ..so_far
+        };
+    }
+    Checked {
         bench: after,
-        end: put_next(text, at, &answer, end),
+        ..so_far
+    }
+}
+
+fn judge_check(script: &[u8], due: &[u8], so_far: Checked, text: &[u8]) -> Checked {
+    let from = so_far.title;
+    let end = so_far.title_end;
+    if end <= script.len() {
+        if from <= end {
+            let title = &script[from..end];
+            let bad = page::judge(so_far.number, title, due, text, so_far.came, so_far.bad);
+            return Checked { bad: bad, ..so_far };
+        }
+    }
+    so_far
+}
+
+// The line that begins with a mark.
+fn take_mark(
+    script: &[u8],
+    from: usize,
+    end: usize,
+    so_far: Checked,
+    memory: &mut [u8],
+    text: &mut [u8],
+) -> Checked
+    requires { ⌜ (from < length (now script)) × (end ≤ length (now script)) ⌝ }
+{
+    let start = from + 1;
+    if end < start {
+        return so_far;
+    }
+    match script[from] {
+        b'*' => Checked {
+            number: so_far.number % 9 + 1,
+            title: start,
+            title_end: end,
+            came: 0,
+            ..so_far
+        },
+        b'=' => judge_check(script, &script[start..end], so_far, text),
+        b'+' => take_line(&script[start..end], true, so_far, memory, text),
+        _ => take_line(&script[start..end], false, so_far, memory, text),
     }
 }
 
@@ -48,20 +115,21 @@ fn line_end(script: &[u8], from: usize) -> usize
     i
 }
 
-// Each line of a script; the bench after it, and where in the text what came out ends.
-pub fn take_lines(script: &[u8], bench: Bench, memory: &mut [u8], text: &mut [u8]) -> Answered {
-    let mut after = bench;
-    let mut at: usize = 0;
+// Each line of a script; how many checks were bad.
+pub fn take_lines(script: &[u8], memory: &mut [u8], text: &mut [u8]) -> u32 {
+    let mut so_far = Checked {
+        bench: answers::opened(),
+        number: 0,
+        title: 0,
+        title_end: 0,
+        came: 0,
+        bad: 0,
+    };
     let mut from: usize = 0;
     while from < script.len() {
         let end = line_end(script, from);
-        let answered = take_line(&script[from..end], after, memory, text, at);
-        after = answered.bench;
-        at = answered.end;
+        so_far = take_mark(script, from, end, so_far, memory, text);
         from = end + 1;
     }
-    Answered {
-        bench: after,
-        end: at,
-    }
+    so_far.bad
 }

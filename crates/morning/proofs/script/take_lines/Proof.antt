@@ -1,15 +1,18 @@
-use borrow.Author.Needs.{needs}
 use Prim.Native.Nat.{_-_}
 use lib.ListN.{length}
 use mathlib.Core.Path.{_≡_}
+use borrow.Author.Needs.{needs}
 use Rattle.morning.proofs.script.take_lines.Statement.{statement}
 use Rattle.morning.proofs.script.take_lines.Tie as tie
 
 abbrev Inv-loop : tie.InvT-loop
-Inv-loop script memory₀ text₀ after₀ at₀ from₀ memory text after at from = (length memory ≡ length memory₀) × (length text ≡ length text₀)
+Inv-loop script memory₀ text₀ so-far₀ from₀ memory text so-far from = (length memory ≡ length memory₀) × (length text ≡ length text₀)
 
 abbrev μ-loop : tie.MeasureT-loop
-μ-loop script memory₀ text₀ after₀ at₀ from₀ memory text after at from = length script - from
+μ-loop script memory₀ text₀ so-far₀ from₀ memory text so-far from = length script - from
+
+opened-requires : tie.Need-opened-requires Inv-loop μ-loop
+opened-requires c κs = search needs
 
 loop-holds : tie.Need-loop-holds Inv-loop μ-loop
 loop-holds c = search needs
@@ -17,17 +20,8 @@ loop-holds c = search needs
 line-end-requires : tie.Need-line-end-requires Inv-loop μ-loop
 line-end-requires c κs = search needs
 
-sub-take-line : tie.Need-sub-take-line Inv-loop μ-loop
-sub-take-line c = search needs
-
-part-take-line-start : tie.Need-part-take-line-start Inv-loop μ-loop
-part-take-line-start c = search needs
-
-part-take-line-end : tie.Need-part-take-line-end Inv-loop μ-loop
-part-take-line-end c = search needs
-
-take-line-requires : tie.Need-take-line-requires Inv-loop μ-loop
-take-line-requires c κs = search needs
+take-mark-requires : tie.Need-take-mark-requires Inv-loop μ-loop
+take-mark-requires c κs = search needs
 
 add-from : tie.Need-add-from Inv-loop μ-loop
 add-from c = search needs
@@ -53,12 +47,10 @@ take-lines-spec =
     (tie.spec
     Inv-loop
     μ-loop
+    opened-requires
     loop-holds
     line-end-requires
-    sub-take-line
-    part-take-line-start
-    part-take-line-end
-    take-line-requires
+    take-mark-requires
     add-from
     loop-less
     loop-again

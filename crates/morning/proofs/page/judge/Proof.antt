@@ -1,8 +1,8 @@
 use lib.Seq.{length-take-le}
 use mathlib.Core.Path.{sym}
 use borrow.Author.Needs.{needs}
-use Rattle.morning.proofs.judge.Statement.{statement}
-use Rattle.morning.proofs.judge.Tie as tie
+use Rattle.morning.proofs.page.judge.Statement.{statement}
+use Rattle.morning.proofs.page.judge.Tie as tie
 
 slice-aggregate-write-check : tie.Need-slice-aggregate-write-check
 slice-aggregate-write-check c = sym (length-take-le _ _ (search needs))
