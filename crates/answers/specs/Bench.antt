@@ -69,7 +69,7 @@ abbrev pub benchOf : Board → Place → ℕ → Bench
 benchOf b p lent = record { board = b; place = p; lent = lent }
 
 -- the bench after a line; the port sees the bytes lent, of those that there are
-abbrev pub benchLeft : BoardLine → Bench → List ℕ → Bench
+unfoldable pub benchLeft : BoardLine → Bench → List ℕ → Bench
 benchLeft asked bench memory =
     benchOf
     (boardLeft asked (bench .board) (bench .place) (take (bench .lent) memory))
@@ -101,7 +101,7 @@ abbrev pub lentWritten : ℕ → Bench → List ℕ → List ℕ
 lentWritten word bench m = writtenBy word (bench .board) (bench .place) (take (bench .lent) m) ++ drop (bench .lent) m
 
 -- "N zero bytes are lent from now on"; "put at A by the bench itself, not through the port"; what a packet leaves; else memory stays
-abbrev pub memoryLeft : List ℕ → BoardLine → Bench → List ℕ → List ℕ
+unfoldable pub memoryLeft : List ℕ → BoardLine → Bench → List ℕ → List ℕ
 memoryLeft line Nothing bench m = m
 memoryLeft line (Make w) bench m = m
 memoryLeft line (Memory n) bench m = sets m 0 (zeros n)

@@ -1,14 +1,8 @@
 // The bench around the board: its lines answered, as the desk's language has them for stand_in and talk.
 use board::Board;
 use board::Place;
-use bus::BreakpointOutcome;
-use bus::Captured;
-use bus::EventOutcome;
-use bus::Pressed;
-use bus::Seen;
 use grounds::Verdict;
 use lines::BoardLine;
-use port::Outcome;
 use text::request::put_refusal;
 use text::request::put_unclear;
 use trigger::Access;
@@ -24,8 +18,6 @@ ghost use Rattle.port.specs.Packets.{packetVerdict, boardNext, placeNext, unles
 ghost use Rattle.bus.specs.Events.{boardAfterEvent, boardAfterBreakpoint};
 ghost use Rattle.answers.specs.Bench.{access, benchOf, benchLeft, zeros, bytesFrom, fits, writtenBy, lentWritten, memoryLeft};
 ghost use Rattle.lines.specs.declared.BoardLine.the-variants.{Packet, Bytes};
-
-mod state;
 
 // The board, the place, and how many bytes of memory are lent.
 pub struct Bench {
@@ -190,42 +182,15 @@ fn show_bytes(address: u32, count: u32, bench: Bench, memory: &[u8], text: &mut 
     ensures { λ r. ⌜ r .bench ≡ bench ⌝ }
 {
     if is_lent(address, count as usize, bench.lent) {
-        let at = text::put_text(text, 0, b"peek ");
         return Answered {
             bench: bench,
-            end: put_memory(memory, address as usize, count, text, at),
+            end: replies::put_peek(text, memory, address as usize, count),
         };
     }
     Answered {
         bench: bench,
         end: put_unclear(text),
     }
-}
-
-// The byte so many places after another one, and 0 beyond the end.
-fn byte_of(memory: &[u8], from: usize, i: usize) -> u32 {
-    if from <= memory.len() {
-        if i < memory.len() - from {
-            return wide(memory[from + i]);
-        }
-        return 0;
-    }
-    0
-}
-
-fn wide(byte: u8) -> u32 {
-    byte as u32
-}
-
-fn put_memory(memory: &[u8], from: usize, count: u32, text: &mut [u8], at: usize) -> usize {
-    let mut to = at;
-    let mut i: usize = 0;
-    let most = count as usize;
-    while i < most {
-        to = text::put_hex(text, to, byte_of(memory, from, i), 2);
-        i += 1;
-    }
-    to
 }
 
 // The bytes lent, of those that there are.
@@ -247,50 +212,8 @@ fn take_word(word: u32, bench: Bench, memory: &mut [u8], text: &mut [u8]) -> Ans
     let outcome = answer.outcome;
     let board_next = answer.board;
     let place_next = answer.place;
-    let end = put_reply(text, outcome);
+    let end = replies::put_reply(text, outcome);
     bench_after(board_next, place_next, bench.lent, end)
-}
-
-fn put_reply(text: &mut [u8], outcome: Outcome) -> usize {
-    match outcome {
-        Outcome::Reply(reply) => {
-            let at = text::put_text(text, 0, b"reply ");
-            text::put_hex(text, at, reply, 5)
-        }
-        Outcome::Refusing(ground) => put_refusal(text, ground),
-    }
-}
-
-fn put_halted(text: &mut [u8], at: usize, halted: bool, interrupt: bool) -> usize {
-    let at = text::put_text(text, at, b" halted ");
-    let at = text::put_flag(text, at, halted);
-    let at = text::put_text(text, at, b" interrupt ");
-    text::put_flag(text, at, interrupt)
-}
-
-fn put_captured(text: &mut [u8], at: usize, captured: Captured) -> usize {
-    match captured {
-        Captured::Nothing => text::put_text(text, at, b" pc none"),
-        Captured::Pc(pc) => {
-            let at = text::put_text(text, at, b" pc ");
-            text::put_hex(text, at, pc, 8)
-        }
-    }
-}
-
-fn put_seen(text: &mut [u8], seen: Seen) -> usize {
-    let captured = seen.captured;
-    let at = text::put_text(text, 0, b"event level ");
-    let at = text::put_hex(text, at, seen.level, 1);
-    let at = put_halted(text, at, seen.halted, seen.interrupt);
-    put_captured(text, at, captured)
-}
-
-fn put_event(text: &mut [u8], outcome: EventOutcome) -> usize {
-    match outcome {
-        EventOutcome::Refused(ground) => put_refusal(text, ground),
-        EventOutcome::Taken(seen) => put_seen(text, seen),
-    }
 }
 
 fn watch(event: Event, bench: Bench, text: &mut [u8]) -> Answered
@@ -301,20 +224,8 @@ fn watch(event: Event, bench: Bench, text: &mut [u8]) -> Answered
     let answer = bus::take_event(board, place, event);
     let outcome = answer.outcome;
     let board_next = answer.board;
-    let end = put_event(text, outcome);
+    let end = replies::put_event(text, outcome);
     bench_after(board_next, place, bench.lent, end)
-}
-
-fn put_pressed(text: &mut [u8], pressed: Pressed) -> usize {
-    let at = text::put_text(text, 0, b"breakpoint");
-    put_halted(text, at, pressed.halted, pressed.interrupt)
-}
-
-fn put_breakpoint(text: &mut [u8], outcome: BreakpointOutcome) -> usize {
-    match outcome {
-        BreakpointOutcome::Refused(ground) => put_refusal(text, ground),
-        BreakpointOutcome::Taken(pressed) => put_pressed(text, pressed),
-    }
 }
 
 fn press(bench: Bench, text: &mut [u8]) -> Answered
@@ -325,7 +236,7 @@ fn press(bench: Bench, text: &mut [u8]) -> Answered
     let answer = bus::press_breakpoint(board, place);
     let outcome = answer.outcome;
     let board_next = answer.board;
-    let end = put_breakpoint(text, outcome);
+    let end = replies::put_breakpoint(text, outcome);
     bench_after(board_next, place, bench.lent, end)
 }
 
@@ -336,7 +247,7 @@ fn tell_state(bench: Bench, text: &mut [u8]) -> Answered
     let place = bench.place;
     Answered {
         bench: bench,
-        end: state::put_state(text, board, place),
+        end: replies::put_state(text, board, place),
     }
 }
 

@@ -20,7 +20,7 @@ use Rattle.conversation.specs.declared.Heard.{Heard}
 use Rattle.conversation.specs.declared.Heard.the-variants.{OfBench, OfPod}
 
 -- the morning's lines are stand_in's and talk's
-abbrev pub heard : Language → List ℕ → Heard
+unfoldable pub heard : Language → List ℕ → Heard
 heard StandIn line = OfBench (BoardAsked (boardLine line))
 heard Talk line = OfBench (talkLine line)
 heard Both line = OfBench (eitherLine line)
@@ -41,7 +41,7 @@ abbrev pub lentAsked : Request → Bench → List ℕ → List ℕ
 lentAsked request bench m = memoryAsked request (bench .board) (bench .place) (take (bench .lent) m) ++ drop (bench .lent) m
 
 -- the bench and memory after a line; one of the pod's leaves both as they were
-abbrev pub benchAfter : Heard → Bench → List ℕ → Bench
+unfoldable pub benchAfter : Heard → Bench → List ℕ → Bench
 benchAfter (OfBench (BoardAsked asked)) bench m = benchLeft asked bench m
 benchAfter (OfBench (Ask request)) bench m =
     benchOf
@@ -50,7 +50,7 @@ benchAfter (OfBench (Ask request)) bench m =
     (bench .lent)
 benchAfter OfPod bench m = bench
 
-abbrev pub memoryAfter : List ℕ → Heard → Bench → List ℕ → List ℕ
+unfoldable pub memoryAfter : List ℕ → Heard → Bench → List ℕ → List ℕ
 memoryAfter line (OfBench (BoardAsked asked)) bench m = memoryLeft line asked bench m
 memoryAfter line (OfBench (Ask request)) bench m = lentAsked request bench m
 memoryAfter line OfPod bench m = m

@@ -56,7 +56,8 @@ fn converse(request: Request, bench: Bench, memory: &mut [u8], text: &mut [u8]) 
 
 // The exchange over the bytes lent, of those that there are.
 fn ask(request: Request, bench: Bench, memory: &mut [u8], text: &mut [u8]) -> Answered
-    ensures { λ r. ⌜ (r .bench ≡ benchAfter (OfBench (Ask request)) bench (now (memory .entry))) × (now (memory .exit) ≡ lentAsked request bench (now (memory .entry))) ⌝ }
+    ensures { λ r. ⌜ (r .bench ≡ benchAfter (OfBench (Ask request)) bench (now (memory .entry)))
+        × (now (memory .exit) ≡ lentAsked request bench (now (memory .entry))) ⌝ }
 {
     let n = answers::lent_of(bench.lent, memory.len());
     converse(request, bench, &mut memory[..n], text)
@@ -80,7 +81,8 @@ fn answer_of_bench(
     memory: &mut [u8],
     text: &mut [u8],
 ) -> Answered
-    ensures { λ r. ⌜ (r .bench ≡ benchAfter (OfBench asked) bench (now (memory .entry))) × (now (memory .exit) ≡ memoryAfter (now (line .entry)) (OfBench asked) bench (now (memory .entry))) ⌝ }
+    ensures { λ r. ⌜ (r .bench ≡ benchAfter (OfBench asked) bench (now (memory .entry)))
+        × (now (memory .exit) ≡ memoryAfter (now (line .entry)) (OfBench asked) bench (now (memory .entry))) ⌝ }
 {
     match asked {
         TalkLine::Board(asked) => answers::answer_line(line, asked, bench, memory, text),
@@ -96,7 +98,8 @@ pub fn answer(
     memory: &mut [u8],
     text: &mut [u8],
 ) -> Answered
-    ensures { λ r. ⌜ (r .bench ≡ benchAfter (heard language (now (line .entry))) bench (now (memory .entry))) × (now (memory .exit) ≡ memoryAfter (now (line .entry)) (heard language (now (line .entry))) bench (now (memory .entry))) ⌝ }
+    ensures { λ r. ⌜ (r .bench ≡ benchAfter (heard language (now (line .entry))) bench (now (memory .entry)))
+        × (now (memory .exit) ≡ memoryAfter (now (line .entry)) (heard language (now (line .entry))) bench (now (memory .entry))) ⌝ }
 {
     let meant = hear(language, line);
     match meant {

@@ -1,3 +1,4 @@
+use Rattle.answers.specs.Bench.{memoryLeft}
 use mathlib.Core.Path.{refl}
 use borrow.Author.Needs.{needs}
 use Rattle.answers.proofs.put_bytes.Statement.{statement}
@@ -25,6 +26,7 @@ same-length-2 : tie.Need-same-length-2
 same-length-2 c = search needs
 
 returns : tie.Need-returns
+unfolding memoryLeft
 returns c = (refl, rw (← c .before .before .before .before .before .before .before .before .before .before .before .before .before .before .is-lent .ensures, c .before .before .before .before .before .before .before .before .before .before .before .before .before .if1 .taken) (c .before .before .before .before .before .before .before .before .before .before .before .copy-bytes .ensures))
 
 put-unclear-requires : tie.Need-put-unclear-requires
@@ -34,6 +36,7 @@ same-length-3 : tie.Need-same-length-3
 same-length-3 c = search needs
 
 returns-2 : tie.Need-returns-2
+unfolding memoryLeft
 returns-2 c = (refl, rw (← c .before .before .before .before .before .is-lent .ensures, c .before .before .before .before .if1 .left))
 
 pub put-bytes-spec : {M : Type 1} → statement M

@@ -1,3 +1,4 @@
+use Rattle.conversation.specs.Heard.{benchAfter}
 use Rattle.answers.specs.BenchLaws.{lent-part}
 use lib.ListN.{length-take}
 use native.Mathlib.Omega.{arith}
@@ -24,6 +25,7 @@ same-length-2 : tie.Need-same-length-2
 same-length-2 c = search needs
 
 returns : tie.Need-returns
+unfolding benchAfter
 returns c = let at = c .before .before .before .before .before .before .before .before .before .before .args in let part = lent-part (at .bench .lent) (c .before .before .before .before .before .before .before .lent-of .result) (at .memory .now) (c .before .before .before .before .before .before .before .lent-of .ensures) in let taken = c .before .before .before .before .converse .ensures in (rw (← part .0) (taken .0), rw (← part .0, ← part .1, taken .1))
 
 pub ask-spec : {M : Type 1} → statement M

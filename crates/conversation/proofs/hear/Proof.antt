@@ -1,3 +1,4 @@
+use Rattle.conversation.specs.Heard.{heard}
 use borrow.Author.Needs.{needs}
 use Rattle.conversation.proofs.hear.Statement.{statement}
 use Rattle.conversation.proofs.hear.Tie as tie
@@ -24,15 +25,19 @@ enum-told-4 : tie.Need-enum-told-4
 enum-told-4 c = search needs
 
 returns : tie.Need-returns
+unfolding heard
 returns c = rw (c .before .enum-told .given .1, c .read-stand-in-line .ensures)
 
 returns-2 : tie.Need-returns-2
+unfolding heard
 returns-2 c = rw (c .before .enum-told2 .given .1, c .read-talk-line .ensures)
 
 returns-3 : tie.Need-returns-3
+unfolding heard
 returns-3 c = rw (c .before .enum-told3 .given .1, c .read-either-line .ensures)
 
 returns-4 : tie.Need-returns-4
+unfolding heard
 returns-4 c = search needs
 
 pub hear-spec : {M : Type 1} → statement M

@@ -2,23 +2,23 @@ use Prim.Native.Nat.{_≤_, _-_}
 use lib.ListN.{length}
 use mathlib.Core.Path.{_≡_}
 use borrow.Author.Needs.{needs}
-use Rattle.answers.proofs.put_memory.Statement.{statement}
-use Rattle.answers.proofs.put_memory.Tie as tie
+use Rattle.replies.proofs.state.put_fields.Statement.{statement}
+use Rattle.replies.proofs.state.put_fields.Tie as tie
 
 abbrev Inv-loop : tie.InvT-loop
-Inv-loop memory from count text₀ at to₀ i₀ most text to i = (i ≤ most) × (length text ≡ length text₀)
+Inv-loop text₀ at form values to₀ next₀ i₀ text to next i = (i ≤ length form) × (length text ≡ length text₀)
 
 abbrev μ-loop : tie.MeasureT-loop
-μ-loop memory from count text₀ at to₀ i₀ most text to i = most - i
+μ-loop text₀ at form values to₀ next₀ i₀ text to next i = length form - i
 
 loop-holds : tie.Need-loop-holds Inv-loop μ-loop
 loop-holds c = search needs
 
-byte-of-requires : tie.Need-byte-of-requires Inv-loop μ-loop
-byte-of-requires c κs = search needs
+shared-slice-read-put-mark : tie.Need-shared-slice-read-put-mark Inv-loop μ-loop
+shared-slice-read-put-mark c = search needs
 
-put-hex-requires : tie.Need-put-hex-requires Inv-loop μ-loop
-put-hex-requires c κs = search needs
+put-mark-requires : tie.Need-put-mark-requires Inv-loop μ-loop
+put-mark-requires c κs = search needs
 
 add-i : tie.Need-add-i Inv-loop μ-loop
 add-i c = search needs
@@ -35,15 +35,15 @@ same-length c = search needs
 returns : tie.Need-returns Inv-loop μ-loop
 returns c = search needs
 
-pub put-memory-spec : {M : Type 1} → statement M
-put-memory-spec =
+pub put-fields-spec : {M : Type 1} → statement M
+put-fields-spec =
     tie.close
     (tie.spec
     Inv-loop
     μ-loop
     loop-holds
-    byte-of-requires
-    put-hex-requires
+    shared-slice-read-put-mark
+    put-mark-requires
     add-i
     loop-less
     loop-again

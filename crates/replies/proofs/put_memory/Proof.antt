@@ -2,23 +2,23 @@ use Prim.Native.Nat.{_≤_, _-_}
 use lib.ListN.{length}
 use mathlib.Core.Path.{_≡_}
 use borrow.Author.Needs.{needs}
-use Rattle.answers.proofs.state.put_fields.Statement.{statement}
-use Rattle.answers.proofs.state.put_fields.Tie as tie
+use Rattle.replies.proofs.put_memory.Statement.{statement}
+use Rattle.replies.proofs.put_memory.Tie as tie
 
 abbrev Inv-loop : tie.InvT-loop
-Inv-loop text₀ at form values to₀ next₀ i₀ text to next i = (i ≤ length form) × (length text ≡ length text₀)
+Inv-loop memory from count text₀ at to₀ i₀ most text to i = (i ≤ most) × (length text ≡ length text₀)
 
 abbrev μ-loop : tie.MeasureT-loop
-μ-loop text₀ at form values to₀ next₀ i₀ text to next i = length form - i
+μ-loop memory from count text₀ at to₀ i₀ most text to i = most - i
 
 loop-holds : tie.Need-loop-holds Inv-loop μ-loop
 loop-holds c = search needs
 
-shared-slice-read-put-mark : tie.Need-shared-slice-read-put-mark Inv-loop μ-loop
-shared-slice-read-put-mark c = search needs
+byte-of-requires : tie.Need-byte-of-requires Inv-loop μ-loop
+byte-of-requires c κs = search needs
 
-put-mark-requires : tie.Need-put-mark-requires Inv-loop μ-loop
-put-mark-requires c κs = search needs
+put-hex-requires : tie.Need-put-hex-requires Inv-loop μ-loop
+put-hex-requires c κs = search needs
 
 add-i : tie.Need-add-i Inv-loop μ-loop
 add-i c = search needs
@@ -35,15 +35,15 @@ same-length c = search needs
 returns : tie.Need-returns Inv-loop μ-loop
 returns c = search needs
 
-pub put-fields-spec : {M : Type 1} → statement M
-put-fields-spec =
+pub put-memory-spec : {M : Type 1} → statement M
+put-memory-spec =
     tie.close
     (tie.spec
     Inv-loop
     μ-loop
     loop-holds
-    shared-slice-read-put-mark
-    put-mark-requires
+    byte-of-requires
+    put-hex-requires
     add-i
     loop-less
     loop-again

@@ -1,0 +1,98 @@
+// The text of the answers to the board's lines.
+use bus::BreakpointOutcome;
+use bus::Captured;
+use bus::EventOutcome;
+use bus::Pressed;
+use bus::Seen;
+use port::Outcome;
+use text::request::put_refusal;
+
+mod state;
+
+pub use state::put_state;
+
+pub fn put_reply(text: &mut [u8], outcome: Outcome) -> usize {
+    match outcome {
+        Outcome::Reply(reply) => {
+            let at = text::put_text(text, 0, b"reply ");
+            text::put_hex(text, at, reply, 5)
+        }
+        Outcome::Refusing(ground) => put_refusal(text, ground),
+    }
+}
+
+fn put_halted(text: &mut [u8], at: usize, halted: bool, interrupt: bool) -> usize {
+    let at = text::put_text(text, at, b" halted ");
+    let at = text::put_flag(text, at, halted);
+    let at = text::put_text(text, at, b" interrupt ");
+    text::put_flag(text, at, interrupt)
+}
+
+fn put_captured(text: &mut [u8], at: usize, captured: Captured) -> usize {
+    match captured {
+        Captured::Nothing => text::put_text(text, at, b" pc none"),
+        Captured::Pc(pc) => {
+            let at = text::put_text(text, at, b" pc ");
+            text::put_hex(text, at, pc, 8)
+        }
+    }
+}
+
+fn put_seen(text: &mut [u8], seen: Seen) -> usize {
+    let captured = seen.captured;
+    let at = text::put_text(text, 0, b"event level ");
+    let at = text::put_hex(text, at, seen.level, 1);
+    let at = put_halted(text, at, seen.halted, seen.interrupt);
+    put_captured(text, at, captured)
+}
+
+pub fn put_event(text: &mut [u8], outcome: EventOutcome) -> usize {
+    match outcome {
+        EventOutcome::Refused(ground) => put_refusal(text, ground),
+        EventOutcome::Taken(seen) => put_seen(text, seen),
+    }
+}
+
+fn put_pressed(text: &mut [u8], pressed: Pressed) -> usize {
+    let at = text::put_text(text, 0, b"breakpoint");
+    put_halted(text, at, pressed.halted, pressed.interrupt)
+}
+
+pub fn put_breakpoint(text: &mut [u8], outcome: BreakpointOutcome) -> usize {
+    match outcome {
+        BreakpointOutcome::Refused(ground) => put_refusal(text, ground),
+        BreakpointOutcome::Taken(pressed) => put_pressed(text, pressed),
+    }
+}
+
+// The byte so many places after another one, and 0 beyond the end.
+fn byte_of(memory: &[u8], from: usize, i: usize) -> u32 {
+    if from <= memory.len() {
+        if i < memory.len() - from {
+            return wide(memory[from + i]);
+        }
+        return 0;
+    }
+    0
+}
+
+fn wide(byte: u8) -> u32 {
+    byte as u32
+}
+
+fn put_memory(memory: &[u8], from: usize, count: u32, text: &mut [u8], at: usize) -> usize {
+    let mut to = at;
+    let mut i: usize = 0;
+    let most = count as usize;
+    while i < most {
+        to = text::put_hex(text, to, byte_of(memory, from, i), 2);
+        i += 1;
+    }
+    to
+}
+
+// `peek HEX`: so many bytes from a place on.
+pub fn put_peek(text: &mut [u8], memory: &[u8], from: usize, count: u32) -> usize {
+    let at = text::put_text(text, 0, b"peek ");
+    put_memory(memory, from, count, text, at)
+}
