@@ -3,7 +3,7 @@ mod listed;
 mod page;
 mod script;
 
-// P1 to P8, one bench for all; how many were bad. The marks are the script's.
+// P1 to P8, one bench for all; how many were good. The marks are the script's.
 fn check_lines(memory: &mut [u8], text: &mut [u8]) -> u32 {
     script::take_lines(
         b"*READ of the longword at 4, with W 1\n\
@@ -77,8 +77,8 @@ fn check_lines(memory: &mut [u8], text: &mut [u8]) -> u32 {
     )
 }
 
-// P9; how many were bad with it.
-fn check_listing(text: &mut [u8], bad: u32) -> u32 {
+// P9; how many were good with it.
+fn check_listing(text: &mut [u8], good: u32) -> u32 {
     let mut words = [0u32; 36];
     let end = listed::put_listing(b"\x10\x50\x90\x04\x03\x02\x11\xF0\xF0", &mut words, text);
     page::judge(
@@ -87,13 +87,13 @@ fn check_listing(text: &mut [u8], bad: u32) -> u32 {
         b"trace cycles=9 items=5, 0 1 0, 1 5 0, 6 9 4660, 6 1 0, 7 15 0",
         text,
         end,
-        bad,
+        good,
     )
 }
 
 fn main() {
     let mut memory = [0u8; 65552];
     let mut text = [0u8; 4096];
-    let bad = check_lines(&mut memory, &mut text);
-    page::write_verdict(check_listing(&mut text, bad));
+    let good = check_lines(&mut memory, &mut text);
+    page::write_verdict(check_listing(&mut text, good));
 }

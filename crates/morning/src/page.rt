@@ -39,27 +39,27 @@ fn write_check(number: u32, title: &[u8], due: &[u8], came: &[u8]) -> bool
 }
 
 // One more, of nine at most.
-fn counted(bad: u32, good: bool) -> u32 {
-    if !good {
-        if bad < 9 {
-            return bad + 1;
+fn counted(good: u32, is_good: bool) -> u32 {
+    if is_good {
+        if good < 9 {
+            return good + 1;
         }
         return 9;
     }
-    bad
+    good
 }
 
-// What came out stands at the front of the text; how many were bad with this check.
-pub fn judge(number: u32, title: &[u8], due: &[u8], text: &[u8], end: usize, bad: u32) -> u32 {
+// What came out stands at the front of the text; how many were good with this check.
+pub fn judge(number: u32, title: &[u8], due: &[u8], text: &[u8], end: usize, good: u32) -> u32 {
     if end <= text.len() {
-        return counted(bad, write_check(number, title, due, &text[..end]));
+        return counted(good, write_check(number, title, due, &text[..end]));
     }
-    counted(bad, write_check(number, title, due, b""))
+    counted(good, write_check(number, title, due, b""))
 }
 
-// Big letters, and a last line.
-pub fn write_verdict(bad: u32) {
-    if bad == 0 {
+// Big letters, and a last line. A check that was never judged is bad.
+pub fn write_verdict(good: u32) {
+    if good == 9 {
         put(b"\n ####   ###    ###   ####\n");
         put(b"#      #   #  #   #  #   #\n");
         put(b"#  ##  #   #  #   #  #   #\n");
@@ -73,6 +73,6 @@ pub fn write_verdict(bad: u32) {
     put(b"####   #####  #   #\n");
     put(b"#   #  #   #  #   #\n");
     put(b"####   #   #  ####\n\n");
-    io::print_decimal(STDOUT_FILENO, bad as u64);
+    io::print_decimal(STDOUT_FILENO, (9 - good % 9) as u64);
     put(b" BAD OF 9: HAND OUT NO POD\n");
 }

@@ -23,14 +23,14 @@ fn put_next(text: &mut [u8], at: usize, part: &[u8], end: usize) -> usize {
     to
 }
 
-// The check at hand: its number, where in the script its title stands, where in the text what came out ends. How many were bad before it.
+// The check at hand: its number, where in the script its title stands, where in the text what came out ends. How many were good before it.
 struct Checked {
     bench: Bench,
     number: u32,
     title: usize,
     title_end: usize,
     came: usize,
-    bad: u32,
+    good: u32,
 }
 
 fn take_line(
@@ -64,8 +64,11 @@ fn judge_check(script: &[u8], due: &[u8], so_far: Checked, text: &[u8]) -> Check
     if end <= script.len() {
         if from <= end {
             let title = &script[from..end];
-            let bad = page::judge(so_far.number, title, due, text, so_far.came, so_far.bad);
-            return Checked { bad: bad, ..so_far };
+            let good = page::judge(so_far.number, title, due, text, so_far.came, so_far.good);
+            return Checked {
+                good: good,
+                ..so_far
+            };
         }
     }
     so_far
@@ -115,7 +118,7 @@ fn line_end(script: &[u8], from: usize) -> usize
     i
 }
 
-// Each line of a script; how many checks were bad.
+// Each line of a script; how many checks were good.
 pub fn take_lines(script: &[u8], memory: &mut [u8], text: &mut [u8]) -> u32 {
     let mut so_far = Checked {
         bench: answers::opened(),
@@ -123,7 +126,7 @@ pub fn take_lines(script: &[u8], memory: &mut [u8], text: &mut [u8]) -> u32 {
         title: 0,
         title_end: 0,
         came: 0,
-        bad: 0,
+        good: 0,
     };
     let mut from: usize = 0;
     while from < script.len() {
@@ -131,5 +134,5 @@ pub fn take_lines(script: &[u8], memory: &mut [u8], text: &mut [u8]) -> u32 {
         so_far = take_mark(script, from, end, so_far, memory, text);
         from = end + 1;
     }
-    so_far.bad
+    so_far.good
 }
