@@ -47,7 +47,7 @@ abbrev pub anyC : List ℕ → Bool
 anyC [] = false
 anyC (d ∷ ds) = carriesC d || anyC ds
 
--- "Addresses .. go upper word first": the first two operand words. One alone is data: FILL has no address
+-- "Addresses .. go upper word first": the first two operand words. FILL alone has one, its data, and its work looks at no address
 abbrev pub addressSent : List ℕ → ℕ
 addressSent [] = 0
 addressSent (only ∷ []) = only
