@@ -81,26 +81,33 @@ judged-gate trace =
     gate-then (gate-if (ltb 65536 (length trace)) 7 0)
     (gate-then (earliest-gate trace 0 (length trace)) (gate-unless (eqb (carriedInto trace (length trace) .due) 0) 10 0))
 
--- a trace that is refused without a buffer is refused so with any
-pub refused-so : (trace : List ℕ) (room k i : ℕ) → reading trace ≡ refusal k i → listing trace room ≡ refusal k i
-unfolding reading listing
-refused-so trace room k i = by-gate (judged-gate trace)
+-- a trace that is refused without a buffer is refused so whatever is judged after it
+pub refused-whatever : (trace : List ℕ) (k i : ℕ) → reading trace ≡ refusal k i → (t : Told) → judged trace t ≡ refusal k i
+unfolding reading
+refused-whatever trace k i = by-gate (judged-gate trace)
   where
-    by-gate : Gate (judged trace) → judged trace (counted (length (items trace))) ≡ refusal k i
-        → judged trace (tooShort trace room (counted (length (items trace)))) ≡ refusal k i
-    by-gate (passes p) e = let z : _≡_ {A = ℕ} 0 1 = cc (p (counted (length (items trace)))) in absurd (omega arith)
-    by-gate (stops k′ i′ p) e = p (tooShort trace room (counted (length (items trace)))) ∙ sym (p (counted (length (items trace)))) ∙ e
+    by-gate : Gate (judged trace) → judged trace (counted (length (items trace))) ≡ refusal k i → (t : Told) → judged trace t ≡ refusal k i
+    by-gate (passes p) e t = let z : _≡_ {A = ℕ} 0 1 = cc (p (counted (length (items trace)))) in absurd (omega arith)
+    by-gate (stops k′ i′ p) e t = p t ∙ sym (p (counted (length (items trace)))) ∙ e
 
--- a trace that is read has the items that are counted, and only the buffer is left to judge
+-- a trace that is read has the items that are counted, and what is judged after it decides
+pub read-whatever : (trace : List ℕ) (n : ℕ) → reading trace ≡ counted n → (n ≡ length (items trace)) × ((t : Told) → judged trace t ≡ t)
+unfolding reading
+read-whatever trace n = by-gate (judged-gate trace)
+  where
+    by-gate : Gate (judged trace) → judged trace (counted (length (items trace))) ≡ counted n → (n ≡ length (items trace)) × ((t : Told) → judged trace t ≡ t)
+    by-gate (passes p) e = (cc (p (counted (length (items trace)))), p)
+    by-gate (stops k i p) e = let z : _≡_ {A = ℕ} 0 1 = cc (p (counted (length (items trace)))) in absurd (omega arith)
+
+-- so it is of the listing, whose buffer is judged last
+pub refused-so : (trace : List ℕ) (room k i : ℕ) → reading trace ≡ refusal k i → listing trace room ≡ refusal k i
+unfolding listing
+refused-so trace room k i e = refused-whatever trace k i e (tooShort trace room (counted (length (items trace))))
+
 pub read-so : (trace : List ℕ) (room n : ℕ) → reading trace ≡ counted n
     → (n ≡ length (items trace)) × (listing trace room ≡ tooShort trace room (counted (length (items trace))))
-unfolding reading listing
-read-so trace room n = by-gate (judged-gate trace)
-  where
-    by-gate : Gate (judged trace) → judged trace (counted (length (items trace))) ≡ counted n
-        → (n ≡ length (items trace)) × (judged trace (tooShort trace room (counted (length (items trace)))) ≡ tooShort trace room (counted (length (items trace))))
-    by-gate (passes p) e = (cc (p (counted (length (items trace)))), p (tooShort trace room (counted (length (items trace)))))
-    by-gate (stops k i p) e = let z : _≡_ {A = ℕ} 0 1 = cc (p (counted (length (items trace)))) in absurd (omega arith)
+unfolding listing
+read-so trace room n e = let r = read-whatever trace n e in (r .0, r .1 (tooShort trace room (counted (length (items trace)))))
 
 pub read-short : (trace : List ℕ) (n : ℕ) → reading trace ≡ counted n → length trace ≤ 65536
 unfolding reading judged tooLong

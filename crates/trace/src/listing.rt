@@ -18,7 +18,7 @@ pub enum Listing {
 }
 
 // How many items a cycle gives.
-fn count_items(carried: Carried, pst: u8) -> usize
+pub fn count_items(carried: Carried, pst: u8) -> usize
     ensures { λ r. ⌜ r ≡ countAt carried pst ⌝ }
 {
     let own = cycle::gives_own(carried.run, pst);

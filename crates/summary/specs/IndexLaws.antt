@@ -1,0 +1,53 @@
+-- Laws of the index: one cycle more, and which entry stands where.
+use mathlib.Core.Path.{_≡_, refl, ap, sym, _∙_}
+use Prim.Native.Nat.{ℕ, zero, suc, _+_, _*_, _/_, _%_, _≤_, _<_}
+use mathlib.Core.Bool.{Bool, true, false, cond}
+use mathlib.Core.List.{List, [], _∷_, _++_}
+use native.Mathlib.Nat.{zero-add}
+use native.Mathlib.Omega.{arith}
+use lib.Dec.{eqb}
+use lib.ListN.{length, set, length-append}
+use lib.Seq.{sets}
+use borrow.Author.Tests.{eqb-true, eqb-false}
+use Rattle.trace.specs.declared.cycle.Carried.{Carried}
+use Rattle.trace.specs.Cycle.{carriedInto}
+use Rattle.trace.specs.Items.{itemsBefore}
+use Rattle.trace.specs.StoreLaws.{sets-append}
+use Rattle.index.specs.Entry.{entryAt, entryWord}
+use Rattle.summary.specs.Index.{entryCount, firstEntries}
+
+pub length-entries : (trace : List ℕ) (n : ℕ) → length (firstEntries trace n) ≡ n
+unfolding firstEntries
+length-entries trace zero = refl
+length-entries trace (suc n) = length-append (firstEntries trace n) (entryWord (entryAt trace (256 * n)) ∷ []) ∙ omega (arith, length-entries trace n)
+
+-- at every 256th cycle an entry more, at its place
+module _ (trace before : List ℕ) (i : ℕ) where
+  entry-due : i % 256 ≡ 0 → (entryCount (i + 1) ≡ suc (i / 256)) × (entryCount i ≡ i / 256) × (256 * (i / 256) ≡ i)
+  entry-due e = (omega arith, omega arith, omega arith)
+
+  entry-not-due : (i % 256 ≡ 0 → ⊥) → entryCount (i + 1) ≡ entryCount i
+  entry-not-due e = omega (arith, e)
+
+  entry-put : i % 256 ≡ 0 → set (sets before 0 (firstEntries trace (entryCount i))) (i / 256) (entryWord (entryAt trace i)) ≡ sets before 0 (firstEntries trace (entryCount (i + 1)))
+  unfolding firstEntries
+  entry-put e =
+      rw (entry-due e .0, entry-due e .1)
+      (sym (sets-append E (entryWord (entryAt trace (256 * (i / 256))) ∷ []) before 0
+      ∙ rw (zero-add (length E), length-entries trace (i / 256), entry-due e .2) refl))
+    where
+      E : List ℕ
+      E = firstEntries trace (i / 256)
+
+  -- a cycle's word put, or not, where the words of the cycles before it stand
+  pub entry-next : (index : List ℕ) (items : ℕ) (c : Carried) → index ≡ sets before 0 (firstEntries trace (entryCount i))
+      → items ≡ length (itemsBefore trace i) → c ≡ carriedInto trace i
+      → cond (eqb (i % 256) 0) (set index (i / 256) (entryWord (record { cycle = i; items = items; carried = c }))) index ≡ sets before 0 (firstEntries trace (entryCount (i + 1)))
+  entry-next index items c e f g = rw (e, f, g) (by-place (eqb (i % 256) 0) refl)
+    where
+      E : List ℕ
+      E = sets before 0 (firstEntries trace (entryCount i))
+
+      by-place : (b : Bool) → eqb (i % 256) 0 ≡ b → cond b (set E (i / 256) (entryWord (entryAt trace i))) E ≡ sets before 0 (firstEntries trace (entryCount (i + 1)))
+      by-place true t = entry-put (eqb-true (i % 256) 0 t)
+      by-place false t = rw (entry-not-due (eqb-false (i % 256) 0 t))

@@ -1,0 +1,63 @@
+-- Laws of the page: the promise in each of its cases, and that no second page fits.
+use mathlib.Core.Path.{_≡_, refl, ap, sym, _∙_}
+use Prim.Native.Nat.{ℕ, _≤_, _<_}
+use mathlib.Core.List.{List}
+use native.Mathlib.Omega.{arith}
+use lib.ListN.{length}
+use lib.Seq.{sets}
+use borrow.Author.Tests.{lt-ltb, le-ltb}
+use Rattle.grounds.specs.declared.Ground.{Ground}
+use Rattle.grounds.specs.declared.Ground.the-variants.{BufferTooShort}
+use Rattle.grounds.specs.Grounds.{number}
+use Rattle.trace.specs.declared.listing.Listing.{Listing}
+use Rattle.trace.specs.Items.{items}
+use Rattle.trace.specs.Listing.{Told, refusal, counted, told, judged, reading}
+use Rattle.trace.specs.JudgeLaws.{refused-whatever, read-whatever}
+use Rattle.trace.specs.ListingLaws.{told-one}
+use Rattle.trace.specs.StoreLaws.{sets-front}
+use Rattle.summary.specs.declared.page.Page.{Page}
+use Rattle.summary.specs.Index.{entryCount, indexWords}
+use Rattle.summary.specs.IndexLaws.{length-entries}
+use Rattle.summary.specs.Page.{pageOf, blank, pageBy, indexShort, summary, indexAfter, PageMeets}
+
+length-index : (trace : List ℕ) → length (indexWords trace) ≡ entryCount (length trace)
+unfolding indexWords
+length-index trace = length-entries trace (entryCount (length trace))
+
+module _ (trace before : List ℕ) (r : Page) where
+  meets : {after : List ℕ} → told (r .judged) ≡ summary trace (length before) → r ≡ pageBy trace (r .judged)
+      → after ≡ indexAfter trace before (told (r .judged)) → PageMeets trace before r after
+  meets e p w = record { answer = e; page = p; words = w ∙ ap (indexAfter trace before) e }
+
+  -- a trace that the reader refuses
+  pub page-refused : (ground : Ground) (cycle : ℕ) → reading trace ≡ refusal (number ground) cycle → r ≡ blank ground cycle → PageMeets trace before r before
+  unfolding summary
+  page-refused ground cycle e p =
+      meets
+      (rw p (sym (refused-whatever trace (number ground) cycle e (indexShort trace (length before) (counted (length (items trace)))))))
+      (rw p refl)
+      (rw p refl)
+
+  module _ (n : ℕ) (e : reading trace ≡ counted n) where
+    -- one whose index has no room
+    pub page-short : length before < entryCount (length trace) → r ≡ blank BufferTooShort 0 → PageMeets trace before r before
+    unfolding summary indexShort
+    page-short h p =
+        meets
+        (rw p (sym (read-whatever trace n e .1 (indexShort trace (length before) (counted (length (items trace)))) ∙ rw (lt-ltb (length before) (entryCount (length trace)) h) refl)))
+        (rw p refl)
+        (rw p refl)
+
+    -- one that is read
+    pub page-read : {after : List ℕ} → entryCount (length trace) ≤ length before → r ≡ pageOf trace n → after ≡ sets before 0 (indexWords trace) → PageMeets trace before r after
+    unfolding summary indexShort
+    page-read h p w =
+        meets
+        (rw p (ap counted (read-whatever trace n e .0) ∙ sym (read-whatever trace n e .1 (indexShort trace (length before) (counted (length (items trace)))) ∙ rw (le-ltb (length before) (entryCount (length trace)) h) refl)))
+        (rw p refl)
+        (rw p (w ∙ sets-front (indexWords trace) before (omega (arith, length-index trace))))
+
+-- no second page fits, and no second buffer
+pub page-one : {trace before after after′ : List ℕ} {r r′ : Page} → PageMeets trace before r after → PageMeets trace before r′ after′ → (r ≡ r′) × (after ≡ after′)
+page-one {trace} {r = r} {r′ = r′} m m′ =
+    (m .page ∙ ap (pageBy trace) (told-one (r .judged) (r′ .judged) (m .answer ∙ sym (m′ .answer))) ∙ sym (m′ .page), m .words ∙ sym (m′ .words))

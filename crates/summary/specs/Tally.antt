@@ -1,0 +1,55 @@
+-- The page (02, [2]): of each code how many items, the first cycle and the last; and the instruction starts.
+use mathlib.Core.Path.{_≡_}
+use Prim.Native.Nat.{ℕ, zero, suc, _+_}
+use mathlib.Core.Bool.{Bool, cond, _||_}
+use mathlib.Core.List.{List, [], _∷_, _++_}
+use lib.Dec.{eqb}
+use Rattle.trace.specs.declared.cycle.Item.{Item}
+use Rattle.trace.specs.declared.cycle.Carried.{Carried}
+use Rattle.trace.specs.Items.{one, valueItem}
+
+-- "the number .. of items of each code"
+unfoldable pub countOf : List Item → ℕ → ℕ
+countOf [] code = 0
+countOf (x ∷ xs) code = one (eqb (x .code) code) + countOf xs code
+
+-- "the first and last cycle of each that occurs"; 0 for one that does not
+unfoldable pub firstOf : List Item → ℕ → ℕ
+firstOf [] code = 0
+firstOf (x ∷ xs) code = cond (eqb (x .code) code) (x .cycle) (firstOf xs code)
+
+unfoldable pub lastOf : List Item → ℕ → ℕ
+unfolding countOf
+lastOf [] code = 0
+lastOf (x ∷ xs) code = cond (eqb (countOf xs code) 0) (cond (eqb (x .code) code) (x .cycle) 0) (lastOf xs code)
+
+-- "instruction starts (codes 1, 4, 5, 7)"
+abbrev pub start : ℕ → Bool
+start code = eqb code 1 || (eqb code 4 || (eqb code 5 || eqb code 7))
+
+unfoldable pub startsOf : List Item → ℕ
+startsOf [] = 0
+startsOf (x ∷ xs) = one (start (x .code)) + startsOf xs
+
+-- one number for each of n codes, from a code on
+unfoldable pub each : (ℕ → ℕ) → ℕ → ℕ → List ℕ
+each number code zero = []
+each number code (suc n) = number code ∷ each number (suc code) n
+
+-- one number for each of the sixteen codes
+abbrev pub perCode : (ℕ → ℕ) → List ℕ
+perCode number = each number 0 16
+
+-- three rows of numbers are the tally of some items
+pub record Tallied (xs : List Item) (counts firsts lasts : List ℕ) : Type 0 where
+  pub count : counts ≡ perCode (countOf xs)
+  pub first : firsts ≡ perCode (firstOf xs)
+  pub last : lasts ≡ perCode (lastOf xs)
+
+-- noting some items: the tally of any items before becomes the tally of these too
+abbrev pub Notes : List Item → List ℕ → List ℕ → List ℕ → List ℕ → List ℕ → List ℕ → Type 0
+Notes xs counts firsts lasts counts′ firsts′ lasts′ = (before : List Item) → Tallied before counts firsts lasts → Tallied (before ++ xs) counts′ firsts′ lasts′
+
+-- noting a value's item: whatever the value is
+abbrev pub NotesValue : ℕ → Carried → List ℕ → List ℕ → List ℕ → List ℕ → List ℕ → List ℕ → Type 0
+NotesValue i carried counts firsts lasts counts′ firsts′ lasts′ = (trace : List ℕ) → Notes (valueItem trace i carried) counts firsts lasts counts′ firsts′ lasts′

@@ -1,0 +1,77 @@
+// The page of a trace and its index, or a refusal.
+use crate::tally;
+use grounds::Ground;
+use rate::Rate;
+use trace::listing;
+use trace::listing::Listing;
+ghost use mathlib.Core.Path.{_≡_};
+ghost use Prim.Native.Nat.{_≤_};
+ghost use lib.ListN.{length};
+ghost use lib.Seq.{sets};
+ghost use Rattle.summary.specs.Index.{entryCount, indexWords};
+ghost use Rattle.summary.specs.Page.{blank, pageOf, PageMeets};
+
+// How the trace was judged, with the number of its items; its cycles, instruction starts and rate; and of each code how many items,
+// the first cycle and the last (0 where it has none). All numbers are 0 where the trace was refused.
+pub struct Page {
+    pub judged: Listing,
+    pub cycles: u32,
+    pub starts: u32,
+    pub rate: Rate,
+    pub counts: [u32; 16],
+    pub firsts: [u32; 16],
+    pub lasts: [u32; 16],
+}
+
+fn refuse(ground: Ground, cycle: usize) -> Page
+    ensures { λ r. ⌜ r ≡ blank ground cycle ⌝ }
+{
+    Page {
+        judged: Listing::Refused { ground, cycle },
+        cycles: 0,
+        starts: 0,
+        rate: Rate::NothingStarted,
+        counts: [0; 16],
+        firsts: [0; 16],
+        lasts: [0; 16],
+    }
+}
+
+// The page of a trace that can be read, of so many items.
+fn fill(trace: &[u8], index: &mut [u32], items: usize) -> Page
+    requires { ⌜ (length (now trace) ≤ 65536) × (entryCount (length (now trace)) ≤ length (now index)) ⌝ }
+    ensures { λ r. ⌜ (r ≡ pageOf (now (trace .entry)) items) × (now (index .exit) ≡ sets (now (index .entry)) 0 (indexWords (now (trace .entry)))) ⌝ }
+{
+    let mut counts = [0u32; 16];
+    let mut firsts = [0u32; 16];
+    let mut lasts = [0u32; 16];
+    tally::tally_trace(trace, &mut counts, &mut firsts, &mut lasts, index);
+    let cycles = trace.len() as u32;
+    let starts = counts[1] + counts[4] + counts[5] + counts[7];
+    let rate = rate::rate_of(cycles, starts);
+    Page {
+        judged: Listing::Items(items),
+        cycles,
+        starts,
+        rate,
+        counts,
+        firsts,
+        lasts,
+    }
+}
+
+// The page of a trace; its index then stands at the front of the buffer, one word an entry.
+pub fn make_page(trace: &[u8], index: &mut [u32]) -> Page
+    ensures { λ r. ⌜ PageMeets (now (trace .entry)) (now (index .entry)) r (now (index .exit)) ⌝ }
+{
+    let judged = listing::judge_trace(trace);
+    match judged {
+        Listing::Refused { ground, cycle } => refuse(ground, cycle),
+        Listing::Items(items) => {
+            if index.len() < (trace.len() + 255) / 256 {
+                return refuse(Ground::BufferTooShort, 0);
+            }
+            fill(trace, index, items)
+        }
+    }
+}
