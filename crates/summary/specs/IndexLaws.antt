@@ -6,15 +6,15 @@ use mathlib.Core.List.{List, [], _∷_, _++_}
 use native.Mathlib.Nat.{zero-add}
 use native.Mathlib.Omega.{arith}
 use lib.Dec.{eqb}
-use lib.ListN.{length, set, length-append}
-use lib.Seq.{sets}
+use lib.ListN.{length, getD, set, length-append, List·getD-append}
+use lib.Seq.{sets, getD-at}
 use borrow.Author.Tests.{eqb-true, eqb-false}
 use Rattle.trace.specs.declared.cycle.Carried.{Carried}
 use Rattle.trace.specs.Cycle.{carriedInto}
 use Rattle.trace.specs.Items.{itemsBefore}
 use Rattle.trace.specs.StoreLaws.{sets-append}
 use Rattle.index.specs.Entry.{entryAt, entryWord}
-use Rattle.summary.specs.Index.{entryCount, firstEntries}
+use Rattle.summary.specs.Index.{entryCount, firstEntries, indexWords}
 
 pub length-entries : (trace : List ℕ) (n : ℕ) → length (firstEntries trace n) ≡ n
 unfolding firstEntries
@@ -51,3 +51,24 @@ module _ (trace before : List ℕ) (i : ℕ) where
       by-place : (b : Bool) → eqb (i % 256) 0 ≡ b → cond b (set E (i / 256) (entryWord (entryAt trace i))) E ≡ sets before 0 (firstEntries trace (entryCount (i + 1)))
       by-place true t = entry-put (eqb-true (i % 256) 0 t)
       by-place false t = rw (entry-not-due (eqb-false (i % 256) 0 t))
+
+-- every word of the index is the entry of its cycle
+pub entry-stands : (trace : List ℕ) (n k : ℕ) → k < n → getD (firstEntries trace n) k 0 ≡ entryWord (entryAt trace (256 * k))
+unfolding firstEntries
+entry-stands trace zero k h = absurd (omega arith)
+entry-stands trace (suc n) k h = by-place (eqb k n) refl (entry-stands trace n k)
+  where
+    E : List ℕ
+    E = firstEntries trace n
+
+    w : ℕ
+    w = entryWord (entryAt trace (256 * n))
+
+    by-place : (b : Bool) → eqb k n ≡ b → (k < n → getD E k 0 ≡ entryWord (entryAt trace (256 * k))) → getD (E ++ (w ∷ [])) k 0 ≡ entryWord (entryAt trace (256 * k))
+    by-place true e on = rw (eqb-true k n e) (getD-at E w [] 0 n (length-entries trace n))
+    by-place false e on =
+        List·getD-append E (w ∷ []) 0 k (omega (arith, eqb-false k n e, length-entries trace n)) ∙ on (omega (arith, eqb-false k n e))
+
+pub index-entry : (trace : List ℕ) (k : ℕ) → 256 * k < length trace → getD (indexWords trace) k 0 ≡ entryWord (entryAt trace (256 * k))
+unfolding indexWords
+index-entry trace k h = entry-stands trace (entryCount (length trace)) k (omega arith)

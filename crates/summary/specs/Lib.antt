@@ -6,3 +6,7 @@ pub mod Index
 pub mod IndexLaws
 pub mod Page
 pub mod PageLaws
+pub mod OrderLaws
+pub mod SumLaws
+pub mod RateLaws
+pub mod Examples
