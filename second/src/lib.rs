@@ -10,6 +10,7 @@ pub mod desk;
 pub mod events;
 pub mod line;
 pub mod packets;
+pub mod page;
 pub mod pod;
 pub mod random;
 pub mod refusal;
