@@ -1,14 +1,16 @@
 //! `second NAME ..`: the desk's programs, the morning's check, the vectors, and the comparison with other programs.
 
+use second::cycles::parse_cycles;
 use second::desk::{self, morning};
 use second::{check, stored};
-use std::io::{self, BufWriter};
+use std::io::{self, BufWriter, Write};
 use std::path::Path;
 use std::process::ExitCode;
 
 const USAGE: &str = "usage: second stand_in | pod | talk | trace_list | page
        second trace_list FROM
        second morning
+       second cycles
        second gen DIR
        second expect DIR
        second compare [--all] BIN_DIR VECTORS_DIR
@@ -30,6 +32,7 @@ fn main() -> ExitCode {
         ["page"] => print_page(),
         [name] if desk::LINE_PROGRAMS.contains(&name) => converse(name),
         ["morning"] => check_morning(),
+        ["cycles"] => write_cycles(),
         ["gen", directory] => stored::generate(Path::new(directory)).map(|()| true),
         ["expect", directory] => check::expect(Path::new(directory)).map(|()| true),
         ["compare", programs, vectors] => check::compare(Path::new(programs), Path::new(vectors), all),
@@ -75,6 +78,14 @@ fn list(arguments: &[&str]) -> Result<bool, String> {
 fn print_page() -> Result<bool, String> {
     let mut output = BufWriter::new(io::stdout().lock());
     desk::page(&mut io::stdin().lock(), &mut output).map_err(|error| format!("second page: {error}"))?;
+    Ok(true)
+}
+
+/// The bytes of a trace that is given as text, for the vectors.
+fn write_cycles() -> Result<bool, String> {
+    let text = io::read_to_string(io::stdin()).map_err(|error| format!("second cycles: {error}"))?;
+    let trace = parse_cycles(&text).ok_or("second cycles: a cycle is two hexadecimal digits, or 20*3 for 20 20 20")?;
+    io::stdout().write_all(&trace).map_err(|error| format!("second cycles: {error}"))?;
     Ok(true)
 }
 

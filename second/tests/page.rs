@@ -4,7 +4,7 @@ mod common;
 use common::{cycles, trace};
 use second::desk::{output_of, output_with};
 use second::page::{index_length, list_from, make_page, Entry, Page, Rate, STARTS};
-use second::random::{random_trace, Rng};
+use second::random::{marked_trace, random_trace, Rng};
 use second::refusal::{Ground, Refusal};
 use second::trace::{count_items, list_trace};
 
@@ -114,10 +114,47 @@ fn a_refusal_leaves_the_index_and_entries_beyond_the_last_stay() {
     assert_eq!((index[1].items, index[1].run(), index[2]), (256, None, before[2]));
 }
 
-/// Random traces that are not refused.
+/// Random traces that are not refused, half of them with something going on at each cycle of the index.
 fn readable_traces(seed: u64, count: usize) -> impl Iterator<Item = Vec<u8>> {
     let mut rng = Rng::new(seed);
-    std::iter::repeat_with(move || random_trace(&mut rng)).filter(|trace| count_items(trace).is_ok()).take(count)
+    let mut traces = [random_trace, marked_trace].into_iter().cycle();
+    std::iter::repeat_with(move || traces.next().unwrap()(&mut rng))
+        .filter(|trace| count_items(trace).is_ok())
+        .take(count)
+}
+
+/// The transfer carried into a cycle, from the last marker before it: its code and the nibbles due.
+fn transfer_into(cycle: usize, trace: &[u8]) -> Option<(u8, u32)> {
+    let marker = trace[..cycle].iter().rposition(|byte| (0x8..=0xB).contains(&(byte >> 4)))?;
+    let code = trace[marker] >> 4;
+    let last_nibble = marker + 2 * (usize::from(code) - 7);
+    (cycle <= last_nibble).then(|| (code, (last_nibble - cycle + 1) as u32))
+}
+
+/// The run carried into a cycle: the last PST before it that is no marker, if that is of a run.
+fn run_into(cycle: usize, trace: &[u8]) -> Option<u8> {
+    let psts = trace[..cycle].iter().map(|byte| byte >> 4);
+    psts.rev().find(|pst| !(0x8..=0xB).contains(pst)).filter(|&pst| pst >= 0xC)
+}
+
+#[test]
+fn entries_hold_what_the_cycles_before_them_hand_over() {
+    let (mut transfers, mut runs, mut both) = (0, 0, 0);
+    for trace in readable_traces(3, 1000) {
+        let (_, index) = page_of(&trace).unwrap();
+        let words = listing_of(&trace);
+        assert_eq!(index.len(), (0..trace.len()).step_by(256).count());
+        for (entry, cycle) in index.iter().zip((0..trace.len()).step_by(256)) {
+            assert_eq!(entry.cycle as usize, cycle);
+            assert_eq!(entry.items as usize, words.chunks(2).filter(|item| (item[0] / 16) < cycle as u32).count());
+            assert_eq!(entry.transfer(), transfer_into(cycle, &trace));
+            assert_eq!(entry.run(), run_into(cycle, &trace));
+            transfers += usize::from(entry.transfer().is_some());
+            runs += usize::from(entry.run().is_some());
+            both += usize::from(entry.transfer().is_some() && entry.run().is_some());
+        }
+    }
+    assert!(transfers > 500 && runs > 500 && both > 300, "{transfers}, {runs}, {both}");
 }
 
 #[test]
