@@ -8,6 +8,8 @@ mod drops;
 mod events;
 mod firing;
 mod illegal;
+mod marks;
+mod pages;
 mod pod;
 mod sequences;
 mod traces;
@@ -17,7 +19,6 @@ use std::fs;
 use std::path::Path;
 
 /// An input of the bulk: its folder, its name without the ending, and its bytes.
-#[derive(Clone)]
 pub struct Stored {
     pub folder: &'static str,
     pub name: String,
@@ -49,6 +50,8 @@ pub fn all() -> Vec<Stored> {
     stored.extend(pod::all());
     stored.extend(conversations::all());
     stored.extend(traces::all());
+    stored.extend(pages::all());
+    stored.extend(marks::all());
     stored
 }
 
