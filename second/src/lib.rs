@@ -1,15 +1,17 @@
 //! The second program: a stand-in for the Revision B debug port of the MCF5307, the pod's half that talks to it, and the
 //! lister of its recorded trace. Written from the requirements alone, it is what the proved programs are compared with.
 //!
-//! A benchmark uses [`board::Board::run`] and [`trace::list_trace`].
+//! A benchmark uses [`board::Board::run`], [`trace::list_trace`], [`page::make_page`] and [`page::list_from`].
 
 pub mod board;
 pub mod check;
 pub mod command;
+pub mod cycles;
 pub mod desk;
 pub mod events;
 pub mod line;
 pub mod packets;
+pub mod page;
 pub mod pod;
 pub mod random;
 pub mod refusal;

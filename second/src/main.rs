@@ -1,13 +1,16 @@
 //! `second NAME ..`: the desk's programs, the morning's check, the vectors, and the comparison with other programs.
 
+use second::cycles::parse_cycles;
 use second::desk::{self, morning};
 use second::{check, stored};
-use std::io::{self, BufWriter};
+use std::io::{self, BufWriter, Write};
 use std::path::Path;
 use std::process::ExitCode;
 
-const USAGE: &str = "usage: second stand_in | pod | talk | trace_list
+const USAGE: &str = "usage: second stand_in | pod | talk | trace_list | page
+       second trace_list FROM
        second morning
+       second cycles
        second gen DIR
        second expect DIR
        second compare [--all] BIN_DIR VECTORS_DIR
@@ -15,13 +18,21 @@ const USAGE: &str = "usage: second stand_in | pod | talk | trace_list
        second soak [--all] BIN_DIR SECONDS";
 
 fn main() -> ExitCode {
-    let arguments: Vec<String> = std::env::args().skip(1).collect();
-    let all = arguments.iter().any(|argument| argument == "--all");
-    let arguments: Vec<&str> = arguments.iter().map(String::as_str).filter(|&argument| argument != "--all").collect();
+    // An argument that is no text is no number either, and no name of anything here.
+    let arguments: Vec<String> =
+        std::env::args_os().skip(1).map(|argument| argument.to_string_lossy().into_owned()).collect();
+    let mut arguments: Vec<&str> = arguments.iter().map(String::as_str).collect();
+    // What follows `trace_list` is a cycle or unclear, whatever it is elsewhere.
+    if let ["trace_list", rest @ ..] = &arguments[..] {
+        return exit(list(rest));
+    }
+    let all = arguments.contains(&"--all");
+    arguments.retain(|&argument| argument != "--all");
     let done = match arguments[..] {
-        ["trace_list"] => list(),
+        ["page"] => print_page(),
         [name] if desk::LINE_PROGRAMS.contains(&name) => converse(name),
         ["morning"] => check_morning(),
+        ["cycles"] => write_cycles(),
         ["gen", directory] => stored::generate(Path::new(directory)).map(|()| true),
         ["expect", directory] => check::expect(Path::new(directory)).map(|()| true),
         ["compare", programs, vectors] => check::compare(Path::new(programs), Path::new(vectors), all),
@@ -35,6 +46,10 @@ fn main() -> ExitCode {
         },
         _ => Err(USAGE.to_string()),
     };
+    exit(done)
+}
+
+fn exit(done: Result<bool, String>) -> ExitCode {
     match done {
         Ok(true) => ExitCode::SUCCESS,
         Ok(false) => ExitCode::FAILURE,
@@ -53,9 +68,24 @@ fn converse(name: &str) -> Result<bool, String> {
     Ok(true)
 }
 
-fn list() -> Result<bool, String> {
+fn list(arguments: &[&str]) -> Result<bool, String> {
     let mut output = BufWriter::new(io::stdout().lock());
-    desk::trace_list(&mut io::stdin().lock(), &mut output).map_err(|error| format!("second trace_list: {error}"))?;
+    desk::trace_list(arguments, &mut io::stdin().lock(), &mut output)
+        .map_err(|error| format!("second trace_list: {error}"))?;
+    Ok(true)
+}
+
+fn print_page() -> Result<bool, String> {
+    let mut output = BufWriter::new(io::stdout().lock());
+    desk::page(&mut io::stdin().lock(), &mut output).map_err(|error| format!("second page: {error}"))?;
+    Ok(true)
+}
+
+/// The bytes of a trace that is given as text, for the vectors.
+fn write_cycles() -> Result<bool, String> {
+    let text = io::read_to_string(io::stdin()).map_err(|error| format!("second cycles: {error}"))?;
+    let trace = parse_cycles(&text).ok_or("second cycles: a cycle is two hexadecimal digits, or 20*3 for 20 20 20")?;
+    io::stdout().write_all(&trace).map_err(|error| format!("second cycles: {error}"))?;
     Ok(true)
 }
 

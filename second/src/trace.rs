@@ -42,26 +42,27 @@ pub fn count_items(trace: &[u8]) -> Result<usize, Refusal> {
 }
 
 /// What one cycle hands to the next.
-struct Decoder {
+#[derive(Clone, Copy, PartialEq, Eq, Default, Debug)]
+pub(crate) struct Decoder {
     /// Nibbles of the transfer still due.
-    due: u32,
+    pub(crate) due: u32,
     /// The marker that announced them.
-    marker: u8,
+    pub(crate) marker: u8,
     /// Where the next nibble goes, and the nibbles so far.
     shift: u32,
     value: u32,
     /// The code of the run under way, C to F, or 0.
-    run: u8,
+    pub(crate) run: u8,
 }
 
 impl Decoder {
-    fn new() -> Decoder {
-        Decoder { due: 0, marker: 0, shift: 0, value: 0, run: 0 }
+    pub(crate) fn new() -> Decoder {
+        Decoder::default()
     }
 
     /// Takes one cycle and hands its items to `item`: first the value that ends here, then the cycle's own.
     #[inline]
-    fn step(&mut self, cycle: u32, byte: u8, mut item: impl FnMut(u32, u32)) -> Result<(), Refusal> {
+    pub(crate) fn step(&mut self, cycle: u32, byte: u8, mut item: impl FnMut(u32, u32)) -> Result<(), Refusal> {
         let (pst, ddata) = (byte >> 4, byte & 0xF);
         match pst {
             0x2 | 0x6 => return Err(Refusal::at(Ground::ReservedPst, cycle)),

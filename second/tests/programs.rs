@@ -32,10 +32,10 @@ fn each_answer_is_written_before_the_next_line_is_read() {
 fn programs(name: &str, filtered: &str, filter: &str) -> PathBuf {
     let directory = Path::new(env!("CARGO_TARGET_TMPDIR")).join(name);
     fs::create_dir_all(&directory).unwrap();
-    for program in ["stand_in", "pod", "talk", "trace_list"] {
+    for program in ["stand_in", "pod", "talk", "trace_list", "page"] {
         let filter = if program == filtered { filter } else { "cat" };
         let path = directory.join(program);
-        fs::write(&path, format!("#!/bin/sh\n'{SECOND}' {program} | {filter}\n")).unwrap();
+        fs::write(&path, format!("#!/bin/sh\n'{SECOND}' {program} \"$@\" | {filter}\n")).unwrap();
         fs::set_permissions(&path, fs::Permissions::from_mode(0o755)).unwrap();
     }
     directory
@@ -82,6 +82,31 @@ fn a_shortest_trace_is_found() {
     let directory = programs("changed_trace", "trace_list", "sed 's/ 15 0$/ 14 0/'");
     let (good, text) = second(&["random", directory.to_str().unwrap(), "1", "20"]);
     assert!(!good && text.contains("the shortest trace found:\n    F"), "{text}");
+}
+
+#[test]
+fn a_shortest_trace_of_a_page_is_found() {
+    let directory = programs("changed_page", "page", "sed 's/ transfer 8 due 1 / transfer none /'");
+    let bin = directory.to_str().unwrap();
+    let (good, text) = second(&["compare", bin, &vectors()]);
+    assert!(!good && text.contains("DIFFERS page/transfer_8\n"), "{text}");
+    assert!(text.contains("  expected: index 512 items 1 transfer 8 due 1 run none\n"), "{text}");
+    let (good, text) = second(&["random", bin, "1", "20"]);
+    assert!(!good && text.contains("page differs; the shortest trace found:\n    00*254 8"), "{text}");
+}
+
+#[test]
+fn a_listing_from_a_cycle_is_compared_with_its_argument() {
+    // Only a listing that starts at a later cycle is changed.
+    let filter = "if [ \"${1:-0}\" = 0 ]; then cat; else sed 's/ 15 0$/ 14 0/'; fi";
+    let directory = programs("changed_rest", "trace_list", filter);
+    let bin = directory.to_str().unwrap();
+    let (good, text) = second(&["compare", bin, &vectors()]);
+    assert!(!good && text.contains("DIFFERS list_from/longest-65280\n"), "{text}");
+    assert!(!text.contains("DIFFERS trace_list/"), "{text}");
+    let (good, text) = second(&["random", bin, "1", "20"]);
+    let shortest = "trace_list \"256\" differs; the shortest trace found:\n    00*256 F";
+    assert!(!good && text.contains(shortest), "{text}");
 }
 
 #[test]

@@ -2,8 +2,8 @@
 
 mod common;
 use common::trace;
-use second::check::{scripts_of, PROGRAMS};
-use second::desk::{output_of, LINE_PROGRAMS};
+use second::check::{output_for, scripts_of, FOLDERS};
+use second::desk::LINE_PROGRAMS;
 use second::stored;
 use std::collections::BTreeSet;
 use std::fs;
@@ -11,6 +11,8 @@ use std::path::{Path, PathBuf};
 
 /// The most lines of an input that a person reads.
 const READABLE: usize = 120;
+/// The folders of traces, each with a list of their cycles.
+const TRACE_FOLDERS: [&str; 3] = ["trace_list", "page", "list_from"];
 
 fn vectors() -> PathBuf {
     Path::new(env!("CARGO_MANIFEST_DIR")).join("vectors")
@@ -26,34 +28,34 @@ fn names_in(folder: &str) -> BTreeSet<String> {
     entries.map(|entry| entry.unwrap().file_name().into_string().unwrap()).collect()
 }
 
-/// The inputs of a program, by name without the ending.
-fn inputs_of(program: &str) -> Vec<(String, PathBuf)> {
-    let scripts = scripts_of(program, &vectors()).unwrap();
+/// The inputs in a folder, by name without the ending.
+fn inputs_of(folder: &str) -> Vec<(String, PathBuf)> {
+    let scripts = scripts_of(folder, &vectors()).unwrap();
     scripts.into_iter().map(|path| (path.file_stem().unwrap().to_str().unwrap().to_string(), path)).collect()
 }
 
 #[test]
 fn outputs_are_what_second_prints() {
-    for program in PROGRAMS {
-        for (name, path) in inputs_of(program) {
+    for folder in FOLDERS {
+        for (name, path) in inputs_of(folder) {
             let input = fs::read(&path).unwrap();
             let output = fs::read(path.with_extension("out")).unwrap();
-            assert!(output_of(program, &input).unwrap() == output, "{program}/{name}.out");
+            assert!(output_for(folder, &name, &input) == output, "{folder}/{name}.out");
         }
     }
 }
 
 #[test]
 fn no_file_is_stale() {
-    let folders = PROGRAMS.iter().copied().chain([".gitattributes", "bulk.sha256"]);
+    let folders = FOLDERS.iter().copied().chain([".gitattributes", "bulk.sha256"]);
     assert_eq!(names_in(""), folders.map(str::to_string).collect());
-    for program in PROGRAMS {
+    for folder in FOLDERS {
         let mut names: BTreeSet<String> =
-            inputs_of(program).iter().flat_map(|(name, _)| [format!("{name}.in"), format!("{name}.out")]).collect();
-        if program == "trace_list" {
+            inputs_of(folder).iter().flat_map(|(name, _)| [format!("{name}.in"), format!("{name}.out")]).collect();
+        if TRACE_FOLDERS.contains(&folder) {
             names.insert("cycles.txt".to_string());
         }
-        assert_eq!(names_in(program), names);
+        assert_eq!(names_in(folder), names);
     }
 }
 
@@ -70,14 +72,17 @@ fn inputs_are_short_and_begin_with_a_comment() {
 
 #[test]
 fn traces_hold_the_cycles_listed_for_them() {
-    let mut listed = BTreeSet::new();
-    for line in text_of("trace_list/cycles.txt").lines().filter(|line| !line.is_empty() && !line.starts_with('#')) {
-        let (name, cycles) = line.split_once(' ').unwrap_or((line, ""));
-        let path = vectors().join("trace_list").join(name).with_extension("in");
-        assert!(fs::read(&path).unwrap() == trace(cycles), "{name}");
-        assert!(listed.insert(name.to_string()), "{name} twice");
+    for folder in TRACE_FOLDERS {
+        let mut listed = BTreeSet::new();
+        let text = text_of(&format!("{folder}/cycles.txt"));
+        for line in text.lines().filter(|line| !line.is_empty() && !line.starts_with('#')) {
+            let (name, cycles) = line.split_once(' ').unwrap_or((line, ""));
+            let path = vectors().join(folder).join(name.to_string() + ".in");
+            assert!(fs::read(&path).unwrap() == trace(cycles), "{folder}/{name}");
+            assert!(listed.insert(name.to_string()), "{folder}/{name} twice");
+        }
+        assert_eq!(listed, inputs_of(folder).into_iter().map(|(name, _)| name).collect());
     }
-    assert_eq!(listed, inputs_of("trace_list").into_iter().map(|(name, _)| name).collect());
 }
 
 #[test]
@@ -85,7 +90,7 @@ fn every_file_of_the_bulk_has_a_digest_and_every_digest_its_file() {
     let mut made = BTreeSet::new();
     for stored in stored::all() {
         for ending in ["in", "out"] {
-            let name = format!("{}/{}.{ending}", stored.program, stored.name);
+            let name = format!("{}/{}.{ending}", stored.folder, stored.name);
             assert!(made.insert(name.clone()), "{name} twice");
         }
     }
@@ -104,7 +109,7 @@ fn every_file_of_the_bulk_has_a_digest_and_every_digest_its_file() {
 fn the_bulk_has_over_100_000_answers() {
     let answers: usize = stored::all()
         .iter()
-        .map(|stored| output_of(stored.program, &stored.input).unwrap())
+        .map(|stored| output_for(stored.folder, &stored.name, &stored.input))
         .map(|output| output.iter().filter(|&&byte| byte == b'\n').count())
         .sum();
     assert!(answers > 100_000, "{answers}");

@@ -1,10 +1,10 @@
 //! Where two outputs part, and the input line that caused it.
 
 use super::run::{run, Run};
-use crate::desk::output_of;
+use super::Subject;
+use crate::desk::{output_with, LINE_PROGRAMS};
 use crate::script::to_bytes;
 use std::fmt;
-use std::path::Path;
 
 /// The first difference between the expected output and that of a program under test.
 #[derive(Debug)]
@@ -23,22 +23,22 @@ pub enum Difference {
 }
 
 /// Runs a program under test on an input and compares its output with the expected one.
-pub fn try_expected(name: &str, program: &Path, input: &[u8], expected: &[u8]) -> Option<Difference> {
-    match run(program, input) {
-        Ok(run) => first_difference(name, input, expected, run),
+pub fn try_expected(subject: Subject, input: &[u8], expected: &[u8]) -> Option<Difference> {
+    match run(subject, input) {
+        Ok(run) => first_difference(subject.name, input, expected, run),
         Err(message) => Some(Difference::Failed(message)),
     }
 }
 
 /// As `try_expected`, with what this program prints.
-pub fn try_input(name: &str, program: &Path, input: &[u8]) -> Option<Difference> {
-    let expected = output_of(name, input).expect("a program's name");
-    try_expected(name, program, input, &expected)
+pub fn try_input(subject: Subject, input: &[u8]) -> Option<Difference> {
+    let expected = output_with(subject.name, subject.arguments, input).expect("a program's name");
+    try_expected(subject, input, &expected)
 }
 
 /// As `try_input`, for the lines of a script.
-pub fn try_lines(name: &str, program: &Path, lines: &[Vec<u8>], last_ended: bool) -> Option<Difference> {
-    try_input(name, program, &to_bytes(lines, last_ended))
+pub fn try_lines(subject: Subject, lines: &[Vec<u8>], last_ended: bool) -> Option<Difference> {
+    try_input(subject, &to_bytes(lines, last_ended))
 }
 
 fn first_difference(name: &str, input: &[u8], expected: &[u8], run: Run) -> Option<Difference> {
@@ -53,7 +53,7 @@ fn first_difference(name: &str, input: &[u8], expected: &[u8], run: Run) -> Opti
         let (expected, actual) = (expected_lines.next(), actual_lines.next());
         if expected != actual {
             return Some(Difference::Line {
-                cause: if name == "trace_list" { None } else { cause(input, answer) },
+                cause: if LINE_PROGRAMS.contains(&name) { cause(input, answer) } else { None },
                 answer,
                 expected: expected.map(<[u8]>::to_vec),
                 actual: actual.map(<[u8]>::to_vec),

@@ -1,13 +1,12 @@
 //! The outputs of a folder of vectors: what this program prints for its inputs.
 
-use super::PROGRAMS;
-use crate::desk::output_of;
+use super::folder::{output_for, FOLDERS};
 use std::fs;
 use std::path::{Path, PathBuf};
 
-/// The inputs of a program, in the order of their names.
-pub fn scripts_of(program: &str, vectors: &Path) -> Result<Vec<PathBuf>, String> {
-    let directory = vectors.join(program);
+/// The inputs in a folder of the vectors, in the order of their names.
+pub fn scripts_of(folder: &str, vectors: &Path) -> Result<Vec<PathBuf>, String> {
+    let directory = vectors.join(folder);
     if !directory.is_dir() {
         return Ok(Vec::new());
     }
@@ -20,15 +19,20 @@ pub fn scripts_of(program: &str, vectors: &Path) -> Result<Vec<PathBuf>, String>
     Ok(scripts)
 }
 
+/// The name of an input, without the ending.
+pub fn name_of(script: &Path) -> String {
+    script.file_stem().unwrap_or_default().to_string_lossy().into_owned()
+}
+
 pub fn read_file(path: &Path) -> Result<Vec<u8>, String> {
     fs::read(path).map_err(|error| format!("{}: {error}", path.display()))
 }
 
 /// Writes NAME.out beside each NAME.in.
 pub fn expect(vectors: &Path) -> Result<(), String> {
-    for program in PROGRAMS {
-        for script in scripts_of(program, vectors)? {
-            let output = output_of(program, &read_file(&script)?).expect("a program's name");
+    for folder in FOLDERS {
+        for script in scripts_of(folder, vectors)? {
+            let output = output_for(folder, &name_of(&script), &read_file(&script)?);
             let path = script.with_extension("out");
             fs::write(&path, output).map_err(|error| format!("{}: {error}", path.display()))?;
         }

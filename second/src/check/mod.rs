@@ -3,6 +3,7 @@
 mod compare;
 mod difference;
 mod expect;
+mod folder;
 mod rounds;
 mod run;
 mod shrink;
@@ -11,14 +12,23 @@ mod soak;
 pub use compare::compare;
 pub use difference::Difference;
 pub use expect::{expect, scripts_of};
+pub use folder::{output_for, FOLDERS};
 pub use rounds::random;
-pub use shrink::shrink;
+pub use shrink::{blank, shrink};
 pub use soak::soak;
 
 use std::path::{Path, PathBuf};
 
 /// The programs under test, by name.
-pub const PROGRAMS: [&str; 4] = ["stand_in", "pod", "talk", "trace_list"];
+pub const PROGRAMS: [&str; 5] = ["stand_in", "pod", "talk", "trace_list", "page"];
+
+/// A program under test, and the arguments it is run with.
+#[derive(Clone, Copy)]
+pub struct Subject<'a> {
+    pub name: &'a str,
+    pub path: &'a Path,
+    pub arguments: &'a [&'a str],
+}
 
 /// The programs under test that are there, and the names of those that are missing.
 pub struct Found {
@@ -38,6 +48,12 @@ impl Found {
             }
         }
         found
+    }
+
+    /// A program by its name, with these arguments; none if it is missing.
+    pub fn subject<'a>(&'a self, name: &str, arguments: &'a [&'a str]) -> Option<Subject<'a>> {
+        let (name, path) = self.present.iter().find(|(present, _)| *present == name)?;
+        Some(Subject { name, path, arguments })
     }
 
     /// Says which are missing; true if that is no failure.

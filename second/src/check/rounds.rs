@@ -1,13 +1,16 @@
 //! Random scripts and traces through the programs under test: one round has one seed.
 
 use super::difference::{shown, try_input, try_lines, Difference};
-use super::shrink::shrink;
-use super::Found;
-use crate::random::{random_script, random_trace, Rng};
+use super::shrink::{blank, shrink};
+use super::{Found, Subject};
+use crate::cycles::show_cycles;
+use crate::desk::LINE_PROGRAMS;
+use crate::page::INDEX_STEP;
+use crate::random::{marked_trace, random_arguments, random_script, random_trace, Rng};
 use std::path::Path;
 use std::time::Duration;
 
-/// How long the shortest case is looked for.
+/// How long each way to a shorter case is followed.
 const SHRINK_TIME: Duration = Duration::from_secs(60);
 const TRACES: usize = 20;
 
@@ -37,57 +40,88 @@ fn stream(seed: u64, program: &str) -> Rng {
 
 /// One round over all programs found. On a difference, says which and shows the shortest case it can find.
 pub fn round(found: &Found, seed: u64, tally: &mut Tally) -> Result<(), String> {
-    for (name, program) in &found.present {
-        let mut rng = stream(seed, name);
-        if *name == "trace_list" {
-            for _ in 0..TRACES {
-                let trace = random_trace(&mut rng);
-                tally.traces += 1;
-                if let Some(difference) = try_input(name, program, &trace) {
-                    return Err(trace_report(program, &trace, &difference));
-                }
-            }
-        } else {
-            let lines = random_script(name, &mut rng, script_length(name));
-            let last_ended = rng.percent(75);
-            tally.lines += lines.len();
-            if let Some(difference) = try_lines(name, program, &lines, last_ended) {
-                return Err(script_report(name, program, lines, last_ended, &difference));
+    for name in LINE_PROGRAMS {
+        if let Some(subject) = found.subject(name, &[]) {
+            try_script(subject, &mut stream(seed, name), tally)?;
+        }
+    }
+    let (mut traces, mut arguments) = (stream(seed, "trace_list"), stream(seed, "list_from"));
+    for place in 0..TRACES {
+        let trace = if place % 2 == 0 { random_trace(&mut traces) } else { marked_trace(&mut traces) };
+        let from = random_arguments(&mut arguments, trace.len() as u32);
+        try_trace(found, &trace, &from)?;
+        tally.traces += 1;
+    }
+    Ok(())
+}
+
+fn try_script(subject: Subject, rng: &mut Rng, tally: &mut Tally) -> Result<(), String> {
+    let lines = random_script(subject.name, rng, script_length(subject.name));
+    let last_ended = rng.percent(75);
+    tally.lines += lines.len();
+    match try_lines(subject, &lines, last_ended) {
+        Some(difference) => Err(script_report(subject, lines, last_ended, &difference)),
+        None => Ok(()),
+    }
+}
+
+/// A trace through the lister, from its first cycle and from another, and onto its page.
+fn try_trace(found: &Found, trace: &[u8], from: &[String]) -> Result<(), String> {
+    let from: Vec<&str> = from.iter().map(String::as_str).collect();
+    for (name, arguments) in [("trace_list", &[][..]), ("trace_list", &from), ("page", &[])] {
+        if let Some(subject) = found.subject(name, arguments) {
+            if let Some(difference) = try_input(subject, trace) {
+                return Err(trace_report(subject, trace, &difference));
             }
         }
     }
     Ok(())
 }
 
-fn script_report(
-    name: &str,
-    program: &Path,
-    mut lines: Vec<Vec<u8>>,
-    last_ended: bool,
-    difference: &Difference,
-) -> String {
+fn script_report(subject: Subject, mut lines: Vec<Vec<u8>>, last_ended: bool, difference: &Difference) -> String {
     // Nothing after the line that shows the difference is needed to show it.
     if let Difference::Line { cause: Some((number, _)), .. } = difference {
         let head = lines[..(*number).min(lines.len())].to_vec();
-        if try_lines(name, program, &head, true).is_some() {
+        if try_lines(subject, &head, true).is_some() {
             lines = head;
         }
     }
-    let fails = |lines: &[Vec<u8>]| try_lines(name, program, lines, last_ended).is_some();
+    let fails = |lines: &[Vec<u8>]| try_lines(subject, lines, last_ended).is_some();
     let shortest = shrink(&lines, SHRINK_TIME, fails);
-    let difference = try_lines(name, program, &shortest, last_ended)
+    let difference = try_lines(subject, &shortest, last_ended)
         .map_or_else(|| difference.to_string(), |difference| difference.to_string());
     let script: String = shortest.iter().map(|line| format!("    {}\n", shown(Some(line)))).collect();
-    format!("{name} differs; the shortest script found:\n{script}{difference}")
+    format!("{} differs; the shortest script found:\n{script}{difference}", subject.name)
 }
 
-fn trace_report(program: &Path, trace: &[u8], difference: &Difference) -> String {
-    let fails = |trace: &[u8]| try_input("trace_list", program, trace).is_some();
-    let shortest = shrink(trace, SHRINK_TIME, fails);
-    let difference = try_input("trace_list", program, &shortest)
-        .map_or_else(|| difference.to_string(), |difference| difference.to_string());
-    let cycles: String = shortest.iter().map(|byte| format!(" {byte:02X}")).collect();
-    format!("trace_list differs; the shortest trace found:\n   {cycles}\n{difference}")
+fn trace_report(subject: Subject, trace: &[u8], difference: &Difference) -> String {
+    let (subject, trace) = earlier_start(subject, trace);
+    let shortest = shortest_trace(trace, |trace| try_input(subject, trace).is_some());
+    let difference =
+        try_input(subject, &shortest).map_or_else(|| difference.to_string(), |difference| difference.to_string());
+    let arguments: String = subject.arguments.iter().map(|argument| format!(" {argument:?}")).collect();
+    let cycles = show_cycles(&shortest);
+    format!("{}{arguments} differs; the shortest trace found:\n    {cycles}\n{difference}", subject.name)
+}
+
+/// The same listing with 256 cycles before it instead of more, if that differs too.
+fn earlier_start<'a>(subject: Subject<'a>, trace: &'a [u8]) -> (Subject<'a>, &'a [u8]) {
+    let earlier = Subject { arguments: &["256"], ..subject };
+    let from = subject.arguments.first().and_then(|from| from.parse::<usize>().ok());
+    let cut = from.and_then(|from| trace.get(from.checked_sub(INDEX_STEP)?..));
+    match cut {
+        Some(rest) if try_input(earlier, rest).is_some() => (earlier, rest),
+        _ => (subject, trace),
+    }
+}
+
+/// Makes those cycles idle that need not be what they are, then leaves out blocks between two entries of the index, then
+/// cycles.
+fn shortest_trace(trace: &[u8], fails: impl Fn(&[u8]) -> bool) -> Vec<u8> {
+    let idle = blank(trace, &0, SHRINK_TIME, &fails);
+    let blocks: Vec<Vec<u8>> = idle.chunks(INDEX_STEP).map(<[u8]>::to_vec).collect();
+    let blocks = shrink(&blocks, SHRINK_TIME, |blocks| fails(&blocks.concat()));
+    shrink(&blocks.concat(), SHRINK_TIME, &fails)
 }
 
 /// `count` rounds from `seed` on. True if all agree.

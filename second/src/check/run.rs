@@ -1,7 +1,7 @@
 //! Running a program under test on a whole input.
 
+use super::Subject;
 use std::io::{Read, Write};
-use std::path::Path;
 use std::process::{Command, Stdio};
 use std::sync::mpsc;
 use std::thread;
@@ -21,13 +21,14 @@ pub struct Run {
 }
 
 /// Runs the program to its end; or says why it came to none: it could not be started, was killed, or did not stop.
-pub fn run(program: &Path, input: &[u8]) -> Result<Run, String> {
-    let mut child = Command::new(program)
+pub fn run(subject: Subject, input: &[u8]) -> Result<Run, String> {
+    let mut child = Command::new(subject.path)
+        .args(subject.arguments)
         .stdin(Stdio::piped())
         .stdout(Stdio::piped())
         .stderr(Stdio::piped())
         .spawn()
-        .map_err(|error| format!("{} could not be started: {error}", program.display()))?;
+        .map_err(|error| format!("{} could not be started: {error}", subject.path.display()))?;
     let mut stdin = child.stdin.take().expect("its input is a pipe");
     let stdout = child.stdout.take().expect("its output is a pipe");
     let stderr = child.stderr.take().expect("its complaints are a pipe");

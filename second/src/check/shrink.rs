@@ -1,4 +1,4 @@
-//! The shortest script that still shows a difference (delta debugging).
+//! The shortest script or trace that still shows a difference (delta debugging).
 
 use std::time::{Duration, Instant};
 
@@ -28,6 +28,33 @@ pub fn shrink<T: Clone>(items: &[T], time: Duration, mut fails: impl FnMut(&[T])
         } else if !removed {
             part = 0;
         }
+    }
+    kept
+}
+
+/// Puts `plain` in the place of parts of `items` as long as the whole still fails, for so much time at most.
+pub fn blank<T: Clone + PartialEq>(
+    items: &[T],
+    plain: &T,
+    time: Duration,
+    mut fails: impl FnMut(&[T]) -> bool,
+) -> Vec<T> {
+    let start = Instant::now();
+    let mut kept = items.to_vec();
+    let mut part = kept.len();
+    while part > 0 {
+        for from in (0..kept.len()).step_by(part) {
+            if start.elapsed() > time {
+                return kept;
+            }
+            let to = (from + part).min(kept.len());
+            let mut blanked = kept.clone();
+            blanked[from..to].fill(plain.clone());
+            if blanked != kept && fails(&blanked) {
+                kept = blanked;
+            }
+        }
+        part /= 2;
     }
     kept
 }

@@ -2,12 +2,14 @@
 
 mod bench;
 pub mod morning;
+mod page;
 mod pod;
 mod stand_in;
 mod talk;
 mod trace_list;
 
 pub use bench::Bench;
+pub use page::page;
 pub use pod::{parse_request, Pod};
 pub use stand_in::StandIn;
 pub use talk::Talk;
@@ -66,13 +68,18 @@ pub fn converse(program: &mut dyn Program, input: &mut impl BufRead, output: &mu
 }
 
 /// The whole output of a program, by name, for a whole input.
-pub fn output_of(name: &str, mut input: &[u8]) -> Option<Vec<u8>> {
+pub fn output_of(name: &str, input: &[u8]) -> Option<Vec<u8>> {
+    output_with(name, &[], input)
+}
+
+/// As `output_of`, with the arguments that `trace_list` may have.
+pub fn output_with(name: &str, arguments: &[&str], mut input: &[u8]) -> Option<Vec<u8>> {
     let mut output = Vec::new();
-    if name == "trace_list" {
-        trace_list(&mut input, &mut output).expect("a slice can be read and a vector written");
-    } else {
-        let mut program = line_program(name)?;
-        converse(program.as_mut(), &mut input, &mut output).expect("a slice can be read and a vector written");
-    }
+    let done = match name {
+        "trace_list" => trace_list(arguments, &mut input, &mut output),
+        "page" => page(&mut input, &mut output),
+        _ => converse(line_program(name)?.as_mut(), &mut input, &mut output),
+    };
+    done.expect("a slice can be read and a vector written");
     Some(output)
 }

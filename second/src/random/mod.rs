@@ -2,6 +2,8 @@
 
 mod aim;
 mod breakpoints;
+mod from;
+mod marks;
 mod noise;
 mod pod;
 mod rng;
@@ -9,6 +11,8 @@ mod stand_in;
 mod talk;
 mod trace;
 
+pub use from::random_arguments;
+pub use marks::marked_trace;
 pub use pod::pod_script;
 pub use rng::Rng;
 pub use stand_in::stand_in_script;

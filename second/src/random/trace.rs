@@ -26,7 +26,7 @@ fn unreserved(rng: &mut Rng) -> u8 {
 }
 
 /// A trace whose transfers all end within it.
-fn valid_trace(rng: &mut Rng, length: usize) -> Vec<u8> {
+pub fn valid_trace(rng: &mut Rng, length: usize) -> Vec<u8> {
     let markers = rng.pick(&[2, 4, 10]);
     let runs = rng.pick(&[20, 50, 80]);
     let mut trace: Vec<u8> = Vec::with_capacity(length);
@@ -52,7 +52,7 @@ fn valid_trace(rng: &mut Rng, length: usize) -> Vec<u8> {
     trace
 }
 
-fn damage(rng: &mut Rng, trace: &mut Vec<u8>) {
+pub fn damage(rng: &mut Rng, trace: &mut Vec<u8>) {
     let place = match rng.below(4) {
         0 => trace.len() - 1,
         1 => trace.len().saturating_sub(2),

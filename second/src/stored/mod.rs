@@ -8,6 +8,8 @@ mod drops;
 mod events;
 mod firing;
 mod illegal;
+mod marks;
+mod pages;
 mod pod;
 mod sequences;
 mod traces;
@@ -16,20 +18,20 @@ mod unclear;
 use std::fs;
 use std::path::Path;
 
-/// An input of the bulk: its name without the ending, and its bytes.
+/// An input of the bulk: its folder, its name without the ending, and its bytes.
 pub struct Stored {
-    pub program: &'static str,
+    pub folder: &'static str,
     pub name: String,
     pub input: Vec<u8>,
 }
 
 impl Stored {
-    fn new(program: &'static str, name: impl Into<String>, input: Vec<u8>) -> Stored {
-        Stored { program, name: name.into(), input }
+    fn new(folder: &'static str, name: impl Into<String>, input: Vec<u8>) -> Stored {
+        Stored { folder, name: name.into(), input }
     }
 
-    fn script(program: &'static str, name: impl Into<String>, lines: &[Vec<u8>]) -> Stored {
-        Stored::new(program, name, crate::script::to_bytes(lines, true))
+    fn script(folder: &'static str, name: impl Into<String>, lines: &[Vec<u8>]) -> Stored {
+        Stored::new(folder, name, crate::script::to_bytes(lines, true))
     }
 }
 
@@ -48,13 +50,15 @@ pub fn all() -> Vec<Stored> {
     stored.extend(pod::all());
     stored.extend(conversations::all());
     stored.extend(traces::all());
+    stored.extend(pages::all());
+    stored.extend(marks::all());
     stored
 }
 
-/// Writes NAME.in for every input of the bulk, by program.
+/// Writes NAME.in for every input of the bulk, by folder.
 pub fn generate(vectors: &Path) -> Result<(), String> {
     for stored in all() {
-        let directory = vectors.join(stored.program);
+        let directory = vectors.join(stored.folder);
         fs::create_dir_all(&directory).map_err(|error| format!("{}: {error}", directory.display()))?;
         let path = directory.join(stored.name).with_extension("in");
         fs::write(&path, stored.input).map_err(|error| format!("{}: {error}", path.display()))?;

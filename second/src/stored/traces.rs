@@ -1,12 +1,11 @@
 //! Recorded traces: P9, each ground, runs, transfers, and the longest ones.
 
 use super::Stored;
+use crate::cycles::parse_cycles;
 use crate::random::{random_trace, Rng};
 
 fn stored(name: &str, cycles: &str) -> Stored {
-    let bytes =
-        cycles.split_whitespace().map(|byte| u8::from_str_radix(byte, 16).expect("a cycle in hexadecimal")).collect();
-    Stored::new("trace_list", name, bytes)
+    Stored::new("trace_list", name, parse_cycles(cycles).expect("cycles in hexadecimal"))
 }
 
 #[rustfmt::skip]
