@@ -84,6 +84,11 @@ earliest-gate trace i c (suc n) =
     gate-then (gate-if (reserved (pst trace i)) 8 i)
     (gate-then (gate-if (tooSoon (c .due) (pst trace i)) 9 i) (earliest-gate trace (i + 1) (after c (pst trace i)) n))
 
+-- cycles that let one number through let any answer through
+pub passes-any : (trace : List ℕ) (i : ℕ) (c : Carried) (n m k : ℕ) (t : Told) → earliest trace i c n (endsInside (counted m)) ≡ counted k
+    → earliest trace i c n (endsInside t) ≡ t
+passes-any trace i c n m k t e = gate-read (earliest-gate trace i c n) m k e .1 t
+
 judged-gate : (trace : List ℕ) (i : ℕ) (c : Carried) → Gate (judgedFrom trace i c)
 unfolding judgedFrom tooLong
 judged-gate trace i c = gate-then (gate-if (ltb 65536 (length trace)) 7 0) (earliest-gate trace i c (length trace - i))

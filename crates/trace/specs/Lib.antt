@@ -10,4 +10,5 @@ pub mod Stores
 pub mod StoreLaws
 pub mod JudgeLaws
 pub mod ListingLaws
+pub mod StartLaws
 pub mod Examples
