@@ -1,6 +1,6 @@
 -- Laws of the judgement: the cycles one after the other, and that it is the same with and without a buffer.
 use mathlib.Core.Path.{_≡_, refl, ap, sym, _∙_}
-use Prim.Native.Nat.{ℕ, zero, suc, _+_, _-_, _≤_, _<_}
+use Prim.Native.Nat.{ℕ, zero, suc, _+_, _-_, _*_, _≤_, _<_}
 use mathlib.Core.Bool.{Bool, true, false, cond}
 use mathlib.Core.List.{List}
 use native.Mathlib.Numerals.{add-one}
@@ -8,7 +8,7 @@ use native.Mathlib.Omega.{arith}
 use lib.Dec.{ltb, eqb}
 use lib.ListN.{length}
 use borrow.Author.Tests.{le-ltb, ltb-false}
-use Rattle.grounds.specs.declared.Ground.the-variants.{ReservedPst, MarkerTooSoon, TraceCutShort}
+use Rattle.grounds.specs.declared.Ground.the-variants.{ReservedPst, MarkerTooSoon, TraceCutShort, BufferTooShort}
 use Rattle.grounds.specs.Grounds.{number}
 use Rattle.trace.specs.declared.cycle.Carried.{Carried}
 use Rattle.trace.specs.Cycle.{pst, reserved, tooSoon, nothing, after, carriedInto}
@@ -112,6 +112,20 @@ pub read-so : (trace : List ℕ) (room n : ℕ) → reading trace ≡ counted n
     → (n ≡ length (items trace)) × (listing trace room ≡ tooShort (items trace) room (counted (length (items trace))))
 unfolding reading listing judged
 read-so trace room n e = let g = gate-read (judged-gate trace 0 nothing) (length (items trace)) n e in (g .0, g .1 _)
+
+-- a trace that is listed is one that is read
+pub listed-read : (trace : List ℕ) (room n : ℕ) → listing trace room ≡ counted n → reading trace ≡ counted n
+unfolding reading listing judged tooShort
+listed-read trace room n = by-gate (judged-gate trace 0 nothing) (ltb room (2 * length (items trace)))
+  where
+    m : ℕ
+    m = length (items trace)
+
+    by-gate : Gate (judgedFrom trace 0 nothing) → (b : Bool)
+        → judgedFrom trace 0 nothing (cond b (refusal (number BufferTooShort) 0) (counted m)) ≡ counted n → judgedFrom trace 0 nothing (counted m) ≡ counted n
+    by-gate (passes p) true e = let z : _≡_ {A = ℕ} 0 1 = cc (p (refusal (number BufferTooShort) 0)) in absurd (omega arith)
+    by-gate (passes p) false e = e
+    by-gate (stops k i p) b e = let z : _≡_ {A = ℕ} 0 1 = cc (p (cond b (refusal (number BufferTooShort) 0) (counted m))) in absurd (omega arith)
 
 pub read-short : (trace : List ℕ) (i : ℕ) (c : Carried) (n : ℕ) → readingFrom trace i c ≡ counted n → length trace ≤ 65536
 unfolding readingFrom judgedFrom tooLong
