@@ -1,15 +1,14 @@
 -- Laws of one cycle more: its items are noted one after the other, and the numbers stay small.
-use mathlib.Core.Path.{_≡_, refl, ap, sym, _∙_}
-use Prim.Native.Nat.{ℕ, zero, suc, _+_, _*_, _≤_, _<_}
-use mathlib.Core.Bool.{Bool, true, false, cond, true≢false}
+use mathlib.Core.Path.{_≡_}
+use Prim.Native.Nat.{ℕ, _+_, _*_, _≤_, _<_}
+use mathlib.Core.Bool.{Bool, true, false, cond}
 use mathlib.Core.List.{List, [], _∷_, _++_, append-assoc}
 use native.Mathlib.Omega.{arith}
-use lib.Dec.{eqb, ltb}
+use lib.Dec.{eqb}
 use lib.ListN.{length, getD, length-append}
-use borrow.Author.Tests.{ltb-true}
 use Rattle.trace.specs.declared.cycle.Carried.{Carried}
 use Rattle.trace.specs.declared.cycle.Item.{Item}
-use Rattle.trace.specs.Cycle.{pst, marker, after, carriedInto}
+use Rattle.trace.specs.Cycle.{pst, carriedInto}
 use Rattle.trace.specs.Items.{ofValue, valueItem, ownItem, itemsAt, itemsBefore}
 use Rattle.trace.specs.ItemLaws.{items-more, items-before-le}
 use Rattle.summary.specs.Tally.{countOf, Tallied}
@@ -35,20 +34,3 @@ items-with-value trace i c =
 -- a tally of so few items has room for one more
 pub room-for-one : (xs : List Item) {counts firsts lasts : List ℕ} (code : ℕ) → code < 16 → length xs ≤ 131072 → Tallied xs counts firsts lasts → getD counts code 0 < 4294967295
 room-for-one xs code h k t = rw (t .count, of-code (countOf xs) code h) (omega (arith, count-le-length xs code))
-
-below-twelve : (p : ℕ) → marker p ≡ true → p < 12
-below-twelve p = by-tests (ltb p 8) (ltb p 12) refl
-  where
-    by-tests : (u v : Bool) → ltb p 12 ≡ v → cond u false v ≡ true → p < 12
-    by-tests true v e t = absurd (true≢false (sym t))
-    by-tests false v e t = ltb-true p 12 (e ∙ t)
-
--- the latest marker is a code
-pub marker-is-code : (trace : List ℕ) (i : ℕ) → carriedInto trace i .marker < 16
-unfolding carriedInto after
-marker-is-code trace zero = omega arith
-marker-is-code trace (suc i) = by-marker (pst trace i) (marker (pst trace i)) refl (marker-is-code trace i)
-  where
-    by-marker : (p : ℕ) (b : Bool) → marker p ≡ b → carriedInto trace i .marker < 16 → cond b p (carriedInto trace i .marker) < 16
-    by-marker p true e h = omega (arith, below-twelve p e)
-    by-marker p false e h = h

@@ -7,7 +7,7 @@ use Rattle.rate.specs.declared.Rate.the-variants.{NothingStarted}
 use Rattle.rate.specs.Rate.{rateOf, hundredths}
 use Rattle.trace.specs.Cycle.{givesOwn, after, carriedInto, value}
 use Rattle.trace.specs.Items.{itemsAt, itemsBefore, items}
-use Rattle.trace.specs.Listing.{refusal, counted, tooLong, earliest, endsInside, judged}
+use Rattle.trace.specs.Listing.{refusal, counted, tooLong, earliest, endsInside, judgedFrom, judged}
 use Rattle.trace.specs.Examples.{p9}
 use Rattle.summary.specs.Tally.{countOf, firstOf, lastOf, startsOf, each, perCode}
 use Rattle.summary.specs.Index.{firstEntries, indexWords}
@@ -36,7 +36,7 @@ pub record Shown : Type 0 where
   pub reserved-first : summary (0x20 ∷ []) 0 ≡ refusal 8 0
 
 pub shown : Shown
-unfolding givesOwn after carriedInto value itemsAt itemsBefore items tooLong earliest endsInside judged countOf firstOf lastOf startsOf each firstEntries indexWords indexShort summary
+unfolding givesOwn after carriedInto value itemsAt itemsBefore items tooLong earliest endsInside judgedFrom judged countOf firstOf lastOf startsOf each firstEntries indexWords indexShort summary
 shown =
     record {
       p9-items = refl;

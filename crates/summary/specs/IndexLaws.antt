@@ -13,7 +13,8 @@ use Rattle.trace.specs.declared.cycle.Carried.{Carried}
 use Rattle.trace.specs.Cycle.{carriedInto}
 use Rattle.trace.specs.Items.{itemsBefore}
 use Rattle.trace.specs.StoreLaws.{sets-append}
-use Rattle.index.specs.Entry.{entryAt, entryWord}
+use Rattle.index.specs.Entry.{entryAt, entryWord, ofWord}
+use Rattle.index.specs.WordLaws.{entry-read-back}
 use Rattle.summary.specs.Index.{entryCount, firstEntries, indexWords}
 
 pub length-entries : (trace : List ℕ) (n : ℕ) → length (firstEntries trace n) ≡ n
@@ -72,3 +73,7 @@ entry-stands trace (suc n) k h = by-place (eqb k n) refl (entry-stands trace n k
 pub index-entry : (trace : List ℕ) (k : ℕ) → 256 * k < length trace → getD (indexWords trace) k 0 ≡ entryWord (entryAt trace (256 * k))
 unfolding indexWords
 index-entry trace k h = entry-stands trace (entryCount (length trace)) k (omega arith)
+
+-- THE LAW: what is read from a word of the index is what the cycles before its own carry
+pub index-read-back : (trace : List ℕ) → ((i : ℕ) → getD trace i 0 < 256) → (k : ℕ) → 256 * k < length trace → ofWord (256 * k) (getD (indexWords trace) k 0) ≡ entryAt trace (256 * k)
+index-read-back trace bytes k h = ap (ofWord (256 * k)) (index-entry trace k h) ∙ entry-read-back trace bytes (256 * k)

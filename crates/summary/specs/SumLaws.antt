@@ -13,8 +13,8 @@ use Rattle.trace.specs.declared.cycle.Carried.{Carried}
 use Rattle.trace.specs.declared.cycle.Item.{Item}
 use Rattle.trace.specs.Cycle.{pst, givesOwn, carriedInto}
 use Rattle.trace.specs.Items.{one, ofValue, ofCycle, valueItem, ownItem, itemsAt, itemsBefore, items}
+use Rattle.index.specs.RangeLaws.{marker-at-most}
 use Rattle.summary.specs.Tally.{countOf, each, perCode}
-use Rattle.summary.specs.CycleLaws.{marker-is-code}
 
 -- a trace of bytes
 abbrev pub Bytes : List ℕ → Type 0
@@ -39,7 +39,7 @@ coded-before trace h zero = tt
 coded-before trace h (suc i) =
     coded-append (itemsBefore trace i) (valueItem trace i c ++ ownItem i (c .run) (pst trace i)) (coded-before trace h i)
     (coded-append (valueItem trace i c) (ownItem i (c .run) (pst trace i))
-    (coded-one (eqb (c .due) 1) (ofValue trace i (c .marker)) (marker-is-code trace i))
+    (coded-one (eqb (c .due) 1) (ofValue trace i (c .marker)) (omega (arith, marker-at-most trace i)))
     (coded-one (givesOwn (c .run) (pst trace i)) (ofCycle i (pst trace i)) (omega (arith, h i))))
   where
     c : Carried

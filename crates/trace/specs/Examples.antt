@@ -2,12 +2,14 @@
 use mathlib.Core.Path.{_≡_, refl}
 use Prim.Native.Nat.{ℕ, zero, suc, _+_, _*_, _≤_, _<_}
 use mathlib.Core.List.{List, [], _∷_}
+use native.Mathlib.Nat.{sub-zero}
 use native.Mathlib.Omega.{arith}
 use lib.ListN.{length, getD, replicate, length-replicate}
 use borrow.Author.Tests.{lt-ltb, le-ltb}
+use Rattle.trace.specs.declared.cycle.Carried.{Carried}
 use Rattle.trace.specs.Cycle.{nothing, givesOwn, after, carriedInto, value}
 use Rattle.trace.specs.Items.{itemsAt, itemsBefore, items, words}
-use Rattle.trace.specs.Listing.{Told, refusal, counted, tooLong, earliest, endsInside, tooShort, judged, listing}
+use Rattle.trace.specs.Listing.{Told, refusal, counted, tooLong, earliest, endsInside, tooShort, judgedFrom, judged, listing}
 
 -- "P9: cycles 10 50 90 04 03 02 11 F0 F0."
 abbrev pub p9 : List ℕ
@@ -37,7 +39,7 @@ pub record Shown : Type 0 where
   pub soon-earlier : listing (0x90 ∷ 0x80 ∷ 0x20 ∷ []) 0 ≡ refusal 9 1
 
 pub shown : Shown
-unfolding givesOwn after carriedInto value itemsAt itemsBefore items tooLong earliest endsInside tooShort judged listing
+unfolding givesOwn after carriedInto value itemsAt itemsBefore items tooLong earliest endsInside tooShort judgedFrom judged listing
 shown =
     record {
       p9-words = refl;
@@ -78,18 +80,18 @@ unfolding itemsBefore itemsAt givesOwn
 quiet-items n zero = refl
 quiet-items n (suc i) = rw (quiet-items n i, quiet-byte n i, quiet-carried n i)
 
-quiet-passes : (n k i : ℕ) (t : Told) → earliest (quiet n) i k t ≡ t
-unfolding earliest
-quiet-passes n zero i t = refl
-quiet-passes n (suc k) i t = rw (quiet-byte n i, quiet-carried n i) (quiet-passes n k (i + 1) t)
+quiet-passes : (n k i : ℕ) (otherwise : Carried → Told) → earliest (quiet n) i nothing k otherwise ≡ otherwise nothing
+unfolding earliest after
+quiet-passes n zero i otherwise = refl
+quiet-passes n (suc k) i otherwise = rw (quiet-byte n i) (quiet-passes n k (i + 1) otherwise)
 
 -- 65,536 cycles are listed; one more is 7, whatever they hold
 pub longest-read : (n : ℕ) → n ≤ 65536 → listing (quiet n) 0 ≡ counted 0
-unfolding listing judged tooLong endsInside tooShort items
-longest-read n h = rw (quiet-length n, le-ltb 65536 n h, quiet-passes n n 0, quiet-carried n n, quiet-items n n)
+unfolding listing judged judgedFrom tooLong endsInside tooShort items
+longest-read n h = rw (quiet-length n, le-ltb 65536 n h, sub-zero n, quiet-passes n n 0, quiet-items n n)
 
 pub longer-refused : (trace : List ℕ) (room : ℕ) → 65536 < length trace → listing trace room ≡ refusal 7 0
-unfolding listing judged tooLong
+unfolding listing judged judgedFrom tooLong
 longer-refused trace room h = rw (lt-ltb 65536 (length trace) h)
 
 pub limit-met : listing (quiet 65536) 0 ≡ counted 0

@@ -3,9 +3,12 @@ pub mod CycleLaws
 pub mod Items
 pub mod MarkerLaws
 pub mod ItemLaws
+pub mod FromLaws
 pub mod Listing
+pub mod ListingFrom
 pub mod Stores
 pub mod StoreLaws
 pub mod JudgeLaws
 pub mod ListingLaws
+pub mod StartLaws
 pub mod Examples

@@ -7,9 +7,10 @@ ghost use Prim.Native.Nat.{_+_, _≤_, _<_};
 ghost use mathlib.Core.List.{[], _∷_};
 ghost use lib.ListN.{length};
 ghost use lib.Seq.{sets};
-ghost use Rattle.trace.specs.Items.{valueItem, ownItem, itemsAt, countAt, items, words};
+ghost use Rattle.trace.specs.Items.{valueItem, ownItem, itemsAt, countAt, itemsToEnd, words};
 ghost use Rattle.trace.specs.Stores.{Stored};
 ghost use Rattle.trace.specs.Listing.{told, reading, ListingMeets};
+ghost use Rattle.trace.specs.ListingFrom.{readingFrom, ListingFromMeets};
 
 // How many items a trace has, or why it is refused and at which cycle (0 where the ground has none).
 pub enum Listing {
@@ -25,9 +26,10 @@ pub fn count_items(carried: Carried, pst: u8) -> usize
     ((carried.due == 1) as usize) + (own as usize)
 }
 
-// Whether a trace can be read: the number of its items, or the refusal, a buffer aside.
-pub fn judge_trace(trace: &[u8]) -> Listing
-    ensures { λ r. ⌜ told r ≡ reading (now (trace .entry)) ⌝ }
+// Whether a trace can be read from a cycle on, which finds so much under way: the number of its items
+// from there on, or the refusal, a buffer aside. No earlier cycle is judged.
+pub fn judge_from(trace: &[u8], cycle: usize, found: Carried) -> Listing
+    ensures { λ r. ⌜ told r ≡ readingFrom (now (trace .entry)) cycle found ⌝ }
 {
     if 65536 < trace.len() {
         return Listing::Refused {
@@ -35,9 +37,9 @@ pub fn judge_trace(trace: &[u8]) -> Listing
             cycle: 0,
         };
     }
-    let mut carried = cycle::nothing_carried();
+    let mut carried = found;
     let mut items = 0usize;
-    let mut i = 0usize;
+    let mut i = cycle;
     while i < trace.len() {
         let pst = trace[i] / 16;
         if cycle::is_reserved(pst) {
@@ -63,6 +65,13 @@ pub fn judge_trace(trace: &[u8]) -> Listing
         ground: Ground::TraceCutShort,
         cycle: 0,
     }
+}
+
+// Whether a trace can be read as a whole.
+pub fn judge_trace(trace: &[u8]) -> Listing
+    ensures { λ r. ⌜ told r ≡ reading (now (trace .entry)) ⌝ }
+{
+    judge_from(trace, 0, cycle::nothing_carried())
 }
 
 // An item's two words at a place of the buffer; the place after them.
@@ -115,14 +124,14 @@ fn put_cycle(trace: &[u8], out: &mut [u32], at: usize, i: usize, carried: Carrie
     put_own(out, next, i, carried.run, pst)
 }
 
-// The words of all items of a trace, from the front of the buffer on.
-fn put_items(trace: &[u8], out: &mut [u32])
-    requires { ⌜ (length (now trace) ≤ 65536) × (length (words (items (now trace))) ≤ length (now out)) ⌝ }
-    ensures { λ _. ⌜ now (out .exit) ≡ sets (now (out .entry)) 0 (words (items (now (trace .entry)))) ⌝ }
+// The words of all items from a cycle on, from the front of the buffer on.
+fn put_from(trace: &[u8], out: &mut [u32], cycle: usize, found: Carried)
+    requires { ⌜ (length (now trace) ≤ 65536) × (length (words (itemsToEnd (now trace) cycle found)) ≤ length (now out)) ⌝ }
+    ensures { λ _. ⌜ now (out .exit) ≡ sets (now (out .entry)) 0 (words (itemsToEnd (now (trace .entry)) cycle found)) ⌝ }
 {
-    let mut carried = cycle::nothing_carried();
+    let mut carried = found;
     let mut at = 0usize;
-    let mut i = 0usize;
+    let mut i = cycle;
     while i < trace.len() {
         let pst = trace[i] / 16;
         at = put_cycle(trace, out, at, i, carried, pst);
@@ -131,11 +140,12 @@ fn put_items(trace: &[u8], out: &mut [u32])
     }
 }
 
-// The listing: the number of items, whose words then stand at the front of the buffer, or a refusal.
-pub fn list_trace(trace: &[u8], out: &mut [u32]) -> Listing
-    ensures { λ r. ⌜ ListingMeets (now (trace .entry)) (now (out .entry)) r (now (out .exit)) ⌝ }
+// A listing that starts at a cycle, with what that cycle finds under way: the items from there on.
+// Where neither is the trace's, it is still safe, and judged and listed as if they were.
+pub fn list_from(trace: &[u8], cycle: usize, found: Carried, out: &mut [u32]) -> Listing
+    ensures { λ r. ⌜ ListingFromMeets (now (trace .entry)) cycle found (now (out .entry)) r (now (out .exit)) ⌝ }
 {
-    let judged = judge_trace(trace);
+    let judged = judge_from(trace, cycle, found);
     match judged {
         Listing::Refused { ground, cycle } => Listing::Refused { ground, cycle },
         Listing::Items(count) => {
@@ -145,8 +155,15 @@ pub fn list_trace(trace: &[u8], out: &mut [u32]) -> Listing
                     cycle: 0,
                 };
             }
-            put_items(trace, out);
+            put_from(trace, out, cycle, found);
             Listing::Items(count)
         }
     }
+}
+
+// The listing: the number of items, whose words then stand at the front of the buffer, or a refusal.
+pub fn list_trace(trace: &[u8], out: &mut [u32]) -> Listing
+    ensures { λ r. ⌜ ListingMeets (now (trace .entry)) (now (out .entry)) r (now (out .exit)) ⌝ }
+{
+    list_from(trace, 0, cycle::nothing_carried(), out)
 }

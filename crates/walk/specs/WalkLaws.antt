@@ -1,9 +1,9 @@
 -- Laws of the walk: a good start hands out the listing and then the end, a refused one its refusal, and no second start fits.
 use mathlib.Core.Path.{_≡_, refl, ap, sym, _∙_}
-use Prim.Native.Nat.{ℕ, zero, suc, _+_}
+use Prim.Native.Nat.{ℕ, zero, suc, _+_, _-_}
 use mathlib.Core.Bool.{false}
 use mathlib.Core.List.{List, [], _∷_, _++_, map}
-use native.Mathlib.Nat.{zero-add, suc-add, sub-zero}
+use native.Mathlib.Nat.{zero-add, suc-add}
 use native.Mathlib.Omega.{arith}
 use lib.ListN.{length, replicate}
 use denote.Ref.{RefT, now}
@@ -13,8 +13,9 @@ use Rattle.grounds.specs.GroundLaws.{same-number-same-ground}
 use Rattle.trace.specs.declared.cycle.Item.{Item}
 use Rattle.trace.specs.declared.listing.Listing.{Listing}
 use Rattle.trace.specs.declared.listing.Listing.the-variants.{Items, Refused}
-use Rattle.trace.specs.Cycle.{nothing, carriedInto}
-use Rattle.trace.specs.Items.{itemsBefore, items}
+use Rattle.trace.specs.Cycle.{nothing}
+use Rattle.trace.specs.Items.{items}
+use Rattle.trace.specs.FromLaws.{items-whole}
 use Rattle.trace.specs.Listing.{Told, refusal, counted, told, reading}
 use Rattle.trace.specs.JudgeLaws.{read-so}
 use Rattle.trace.specs.ListingLaws.{told-one}
@@ -25,7 +26,7 @@ use Rattle.walk.specs.declared.Handed.the-variants.{Item as oneItem, End
 use Rattle.walk.specs.Walk as walk
 use Rattle.walk.specs.Walk.{placed, StartMeets, stepOf, ToldStep, toldStep, firstOf, handings, walkAt, WalkStarts, steppedOf}
 use Rattle.walk.specs.StepLaws.{step-refused}
-use Rattle.walk.specs.RestLaws.{itemsFrom, rest, items-from, Unrolls, step-unrolls}
+use Rattle.walk.specs.RestLaws.{rest, none-past, Unrolls, step-unrolls}
 
 -- from a place with no items on, the end is handed out for ever
 ends-handed : (trace : List ℕ) (n m : ℕ) (place : Place) → place .start ≡ Items n → rest trace place ≡ [] → handings m trace place ≡ replicate m atEnd
@@ -67,12 +68,7 @@ start-read trace place n s e = told-one (place .start) (Items n) (s .judged ∙ 
 
 -- before a start lie all the items of the trace
 start-rest : (trace : List ℕ) (place : Place) → StartMeets trace place → rest trace place ≡ items trace
-unfolding items itemsBefore carriedInto
-start-rest trace place s =
-    ap (rest trace) (s .first)
-    ∙ ap (λ (n : ℕ). itemsFrom trace n 0 nothing false) (sub-zero (length trace))
-    ∙ items-from trace (length trace) 0 nothing refl
-    ∙ ap (itemsBefore trace) (zero-add (length trace))
+start-rest trace place s = ap (rest trace) (s .first) ∙ none-past trace (length trace - 0) 0 nothing ∙ items-whole trace
 
 -- "items and count equal the listing's": a good start hands out the listing's items, as many as it counts, and then the end for ever
 pub walk-is-listing : (trace : List ℕ) (place : Place) (n m : ℕ) → StartMeets trace place → reading trace ≡ counted n

@@ -1,8 +1,9 @@
 -- Each answer of the judgement is the page's, but for the index buffer, which is judged last.
 use mathlib.Core.Path.{ap, sym, _∙_}
 use native.Mathlib.Omega.{arith}
+use Rattle.trace.specs.Cycle.{nothing}
 use Rattle.trace.specs.Listing.{told}
-use Rattle.trace.specs.JudgeLaws.{read-short}
+use Rattle.trace.specs.JudgeLaws.{read-short, reading-whole}
 use Rattle.summary.specs.PageLaws.{page-refused, page-short, page-read}
 use borrow.Author.Needs.{needs}
 use Rattle.summary.proofs.page.make_page.Statement.{statement}
@@ -45,7 +46,7 @@ returns c = let e = sym (c .before .before .before .before .before .judge-trace 
 -- src/page.rt:74:13
 fill-requires : tie.Need-fill-requires
 fill-requires c κs = let e = sym (c .before .before .before .before .before .judge-trace .ensures) ∙ ap told (c .before .before .before .judged2 .given .1) in
-    (read-short _ _ e, omega arith)
+    (read-short _ 0 nothing _ (reading-whole _ ∙ e), omega arith)
 
 -- src/page.rt:64:1
 returns-2 : tie.Need-returns-2

@@ -10,8 +10,9 @@ use Rattle.trace.specs.CycleLaws.{carried-next}
 use Rattle.trace.specs.Items.{valueItem, itemsBefore, items}
 use Rattle.trace.specs.ItemLaws.{count-le, count-next, items-before-le}
 use Rattle.trace.specs.StoreLaws.{length-stored}
+use Rattle.index.specs.RangeLaws.{marker-at-most}
 use Rattle.summary.specs.Tally.{Tallied}
-use Rattle.summary.specs.CycleLaws.{cycle-noted, items-with-value, room-for-one, marker-is-code}
+use Rattle.summary.specs.CycleLaws.{cycle-noted, items-with-value, room-for-one}
 use Rattle.summary.specs.Index.{entryCount, firstEntries, indexWords}
 use Rattle.summary.specs.IndexLaws.{entry-next}
 use borrow.Author.Needs.{needs}
@@ -57,7 +58,7 @@ put-entry-requires c κs = let w = c .before .before .before .loop in
 note-value-requires : tie.Need-note-value-requires Inv-loop μ-loop
 note-value-requires c κs = let w = c .before .before .before .before .before .before .before .before .before .loop in
     let trace = c .before .before .before .before .before .before .before .before .before .before .before .before .before .args .trace .now in
-    let m = rw (← w .inv .1) at (marker-is-code trace (w .i)) in
+    let m : w .carried .marker < 16 = rw (w .inv .1) (omega (arith, marker-at-most trace (w .i))) in
     (search needs, m, room-for-one (itemsBefore trace (w .i)) (w .carried .marker) m (omega (arith, items-before-le trace (w .i))) (w .inv .3))
 
 -- src/tally.rt:103:9
