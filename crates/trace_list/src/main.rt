@@ -1,8 +1,14 @@
-// Lists the trace on standard input, one byte a cycle: a head, then the cycle, code and value of each item in decimal.
+// Lists the trace on standard input, one byte a cycle: a head, then the cycle, code and value of each item in decimal. With an
+// argument FROM, the listing starts at that cycle, by way of the index.
+mod asked;
+
+use asked::Asked;
 use libc::STDIN_FILENO;
+use summary::page;
 use text::listing::put_head;
 use text::listing::put_item;
 use text::request::put_refusal_at;
+use text::request::put_unclear;
 use trace::listing;
 use trace::listing::Listing;
 
@@ -29,14 +35,15 @@ fn write_items(words: &[u32], text: &mut [u8]) {
     console::write(text, at);
 }
 
-fn list(trace: &[u8], words: &mut [u32], text: &mut [u8]) {
-    match listing::list_trace(trace, words) {
+// What a listing answered, and the items whose words it left.
+fn write_listing(listed: Listing, cycles: usize, words: &[u32], text: &mut [u8]) {
+    match listed {
         Listing::Refused { ground, cycle } => {
             let end = put_refusal_at(text, ground, cycle);
             console::say(text, end);
         }
         Listing::Items(items) => {
-            let end = put_head(text, trace.len(), items);
+            let end = put_head(text, cycles, items);
             console::say(text, end);
             let room = words.len() / 2;
             if items <= room {
@@ -46,11 +53,72 @@ fn list(trace: &[u8], words: &mut [u32], text: &mut [u8]) {
     }
 }
 
+fn say_unclear(text: &mut [u8]) {
+    let end = put_unclear(text);
+    console::say(text, end);
+}
+
+// The listing from a cycle on, by its entry in the index. A cycle without one is unclear.
+fn write_from(trace: &[u8], from: usize, index: &[u32], words: &mut [u32], text: &mut [u8]) {
+    let place = from / 256;
+    if from < trace.len() {
+        if place < index.len() {
+            let entry = index::read_entry(from, index[place]);
+            let listed = index::list_from(trace, entry, words);
+            write_listing(listed, trace.len(), words, text);
+            return;
+        }
+    }
+    say_unclear(text);
+}
+
+// The whole trace is judged before FROM is looked up.
+fn list_from(trace: &[u8], from: usize, words: &mut [u32], text: &mut [u8]) {
+    let mut index = [0u32; 256];
+    let page = page::make_page(trace, &mut index);
+    let judged = page.judged;
+    match judged {
+        Listing::Refused { ground, cycle } => {
+            let end = put_refusal_at(text, ground, cycle);
+            console::say(text, end);
+        }
+        Listing::Items(_) => write_from(trace, from, &index, words, text),
+    }
+}
+
 // A buffer of four words a cycle is never too short.
-fn main() {
+fn list_input(asked: Asked, text: &mut [u8]) {
     let mut trace = [0u8; 65537];
     let mut words = [0u32; 262144];
+    match asked {
+        Asked::Unclear => say_unclear(text),
+        Asked::Whole => {
+            let cycles = io::read_full(STDIN_FILENO, &mut trace);
+            let listed = listing::list_trace(&trace[..cycles], &mut words);
+            write_listing(listed, cycles, &words, text);
+        }
+        Asked::From(from) => {
+            let cycles = io::read_full(STDIN_FILENO, &mut trace);
+            list_from(&trace[..cycles], from as usize, &mut words, text);
+        }
+    }
+}
+
+// What the words behind the program's name ask. No word is longer than Linux lets one be, 131,071 bytes.
+fn read_asked() -> Asked {
+    let count = os::arg_count();
+    if count < 2 {
+        return Asked::Whole;
+    }
+    if 2 < count {
+        return Asked::Unclear;
+    }
+    let mut word = [0u8; 131072];
+    let end = os::arg(1, &mut word);
+    asked::read_from(&word[..end])
+}
+
+fn main() {
     let mut text = [0u8; 16384];
-    let cycles = io::read_full(STDIN_FILENO, &mut trace);
-    list(&trace[..cycles], &mut words, &mut text);
+    list_input(read_asked(), &mut text);
 }
