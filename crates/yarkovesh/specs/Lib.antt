@@ -1,2 +1,4 @@
 pub mod Exported
 pub mod ExportedLaws
+pub mod ExportedPage
+pub mod ExportedPageLaws

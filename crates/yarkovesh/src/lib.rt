@@ -1,8 +1,11 @@
-// For programs in other languages: a run of packets on a fresh board, and the listing of a trace. `rt staticlib yarkovesh` writes the archive.
+// For programs in other languages: a run of packets on a fresh board, the listing of a trace, and its page. `rt staticlib yarkovesh` writes the archive.
 ghost use mathlib.Core.Path.{_≡_};
 ghost use Rattle.yarkovesh.specs.Exported.{verdictNumber, listingNumber, FreshRunMeets, ListMeets};
+ghost use Rattle.yarkovesh.specs.ExportedPage.{rateBits, rows, PageNumbersMeet};
 ghost use Rattle.trace.specs.Listing.{told};
 use grounds::Verdict;
+use rate::Rate;
+use summary::page;
 use trace::listing;
 use trace::listing::Listing;
 
@@ -57,4 +60,49 @@ pub extern "C" fn yarkovesh_list(trace: &[u8], words: &mut [u32]) -> u64
 {
     let listed = listing::list_trace(trace, words);
     listing_number(listed)
+}
+
+fn bits_of(rate: Rate) -> u64
+    ensures { λ r. ⌜ r ≡ rateBits rate ⌝ }
+{
+    match rate {
+        Rate::NothingStarted => 0,
+        Rate::Average(average) => rate::bits_of(average),
+    }
+}
+
+// The page of a trace: as the listing answers, how many items or the refusal. Of each of the sixteen codes how many items, the first
+// cycle and the last; the instruction starts; and the bits of the rate, 0 where nothing started.
+#[no_mangle]
+pub extern "C" fn yarkovesh_page(
+    trace: &[u8],
+    counts: &mut [u32; 16],
+    firsts: &mut [u32; 16],
+    lasts: &mut [u32; 16],
+    starts: &mut u32,
+    rate: &mut u64,
+    index: &mut [u32],
+) -> u64
+    ensures { λ r. ⌜ PageNumbersMeet (now (trace .entry)) (now (index .entry)) r (now (index .exit)) (rows (now (counts .entry)) (now (firsts .entry)) (now (lasts .entry)) (now (starts .entry)) (now (rate .entry))) (rows (now (counts .exit)) (now (firsts .exit)) (now (lasts .exit)) (now (starts .exit)) (now (rate .exit))) ⌝ }
+{
+    let page = page::make_page(trace, index);
+    let judged = page.judged;
+    match judged {
+        Listing::Refused {
+            ground: _,
+            cycle: _,
+        } => listing_number(judged),
+        Listing::Items(_) => {
+            let page_counts = page.counts;
+            let page_firsts = page.firsts;
+            let page_lasts = page.lasts;
+            let page_rate = page.rate;
+            *counts = page_counts;
+            *firsts = page_firsts;
+            *lasts = page_lasts;
+            *starts = page.starts;
+            *rate = bits_of(page_rate);
+            listing_number(judged)
+        }
+    }
 }
