@@ -26,6 +26,10 @@ ofWord cycle word = record { cycle = cycle; items = word / 4096; carried = recor
 abbrev pub itemsOn : List ℕ → Entry → List Item
 itemsOn trace e = itemsToEnd trace (e .cycle) (e .carried)
 
+-- those from the trace's own entry of a cycle on
+abbrev pub restAt : List ℕ → ℕ → List Item
+restAt trace i = itemsOn trace (entryAt trace i)
+
 -- what a listing from an entry promises, for every entry: the answer, and every word of the buffer
 abbrev pub EntryMeets : List ℕ → Entry → List ℕ → Listing → List ℕ → Type 0
 EntryMeets trace e before r after = ListingFromMeets trace (e .cycle) (e .carried) before r after

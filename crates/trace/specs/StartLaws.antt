@@ -40,14 +40,16 @@ earliest-from : (trace : List ℕ) (m : ℕ) (otherwise : Carried → Told) → 
 unfolding carriedInto
 earliest-from trace m otherwise e zero h = e
 earliest-from trace m otherwise e (suc i) h =
-    rw (add-one i) at (earliest-on trace i (carriedInto trace i) (length trace - (i + 1)) m otherwise (rw (cycles-left (length trace) i (omega arith)) at (earliest-from trace m otherwise e i (omega arith))))
+    let here = rw (cycles-left (length trace) i (omega arith)) at (earliest-from trace m otherwise e i (omega arith)) in
+    rw (add-one i) at (earliest-on trace i (carriedInto trace i) (length trace - (i + 1)) m otherwise here)
 
 -- a trace that can be read can be read from each of its cycles on, and what is counted there is the rest
 pub read-on : (trace : List ℕ) (i n : ℕ) → i ≤ length trace → reading trace ≡ counted n
     → readingFrom trace i (carriedInto trace i) ≡ counted (n - length (itemsBefore trace i))
 read-on trace i n h e =
     reading-short trace i (carriedInto trace i) short
-    ∙ passes-any trace i (carriedInto trace i) (length trace - i) (length (itemsToEnd trace 0 nothing)) n _ (earliest-from trace n _ (sym (reading-short trace 0 nothing short) ∙ first) i h)
+    ∙ passes-any trace i (carriedInto trace i) (length trace - i) (length (itemsToEnd trace 0 nothing)) n _
+    (earliest-from trace n _ (sym (reading-short trace 0 nothing short) ∙ first) i h)
     ∙ ap counted rest
   where
     first : readingFrom trace 0 nothing ≡ counted n

@@ -56,7 +56,8 @@ add-items : tie.Need-add-items Inv-loop μ-loop
 add-items c = let w = c .before .before .before .before .before .before .before .loop in
     let a = c .before .before .before .before .before .before .before .before .before .before .args in
     let trace = a .trace .now in
-    omega (arith, c .count-items .ensures, count-to-end trace (w .i) (w .carried) (omega arith), items-from-le trace (a .cycle) (a .found) (length trace - a .cycle))
+    let e = count-to-end trace (w .i) (w .carried) (omega arith) in
+    omega (arith, c .count-items .ensures, items-from-le trace (a .cycle) (a .found) (length trace - a .cycle))
 
 after-cycle-requires : tie.Need-after-cycle-requires Inv-loop μ-loop
 after-cycle-requires c κs = tt

@@ -24,7 +24,8 @@ enum-known-judged-2 c = search needs
 returns : tie.Need-returns
 returns c = let a = c .before .before .before .before .before .before .before .args in
     let g = c .before .before .judged2 .given in
-    let e = read-from (a .trace .now) (a .cycle) (a .found) (length (a .out .now)) (g .0 .0) (sym (c .before .before .before .before .judge-from .ensures) ∙ ap told (g .1)) in
+    let reads = sym (c .before .before .before .before .judge-from .ensures) ∙ ap told (g .1) in
+    let e = read-from (a .trace .now) (a .cycle) (a .found) (length (a .out .now)) (g .0 .0) reads in
     listing-meets _ _ _ _ _ _ (sym (e .1 ∙ short-so _ _ _ (omega (arith, e .0)))) refl
 
 put-from-requires : tie.Need-put-from-requires
@@ -44,7 +45,8 @@ same-length c = search needs
 returns-3 : tie.Need-returns-3
 returns-3 c = let a = c .before .before .before .before .before .before .before .before .before .before .before .args in
     let g = c .before .before .before .before .before .before .judged2 .given in
-    let e = read-from (a .trace .now) (a .cycle) (a .found) (length (a .out .now)) (g .0 .0) (sym (c .before .before .before .before .before .before .before .before .judge-from .ensures) ∙ ap told (g .1)) in
+    let reads = sym (c .before .before .before .before .before .before .before .before .judge-from .ensures) ∙ ap told (g .1) in
+    let e = read-from (a .trace .now) (a .cycle) (a .found) (length (a .out .now)) (g .0 .0) reads in
     let xs = itemsToEnd (a .trace .now) (a .cycle) (a .found) in
     listing-meets _ _ _ _ _ _
     (ap counted (e .0) ∙ sym (e .1 ∙ room-so _ _ _ (omega (arith, e .0))))
