@@ -2,7 +2,6 @@
 use Prim.Native.Nat.{ℕ, _+_, _*_, _/_, _%_}
 use mathlib.Core.List.{List}
 use lib.ListN.{length}
-use Rattle.trace.specs.declared.cycle.Carried.{Carried}
 use Rattle.trace.specs.declared.cycle.Item.{Item}
 use Rattle.trace.specs.declared.listing.Listing.{Listing}
 use Rattle.trace.specs.Cycle.{carriedInto}

@@ -12,7 +12,7 @@ use Rattle.trace.specs.Cycle.{carriedInto}
 use Rattle.trace.specs.Items.{itemsBefore, items, words}
 use Rattle.trace.specs.ItemLaws.{length-words}
 use Rattle.trace.specs.FromLaws.{items-split, words-split}
-use Rattle.trace.specs.Listing.{Told, refusal, counted, told, tooShort, reading, wordsOver, wordsAfter, ListingMeets}
+use Rattle.trace.specs.Listing.{refusal, counted, told, tooShort, reading, wordsOver, wordsAfter, ListingMeets}
 use Rattle.trace.specs.ListingFrom.{listingFrom}
 use Rattle.trace.specs.JudgeLaws.{read-from, read-so, listed-read}
 use Rattle.trace.specs.ListingLaws.{short-so, room-so, from-one}

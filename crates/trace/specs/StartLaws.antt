@@ -1,5 +1,5 @@
 -- Laws of a start at a cycle of the trace with what that cycle finds under way: it is read where the whole trace is, and counts the rest.
-use mathlib.Core.Path.{_≡_, refl, ap, sym, _∙_}
+use mathlib.Core.Path.{_≡_, ap, sym, _∙_}
 use Prim.Native.Nat.{ℕ, zero, suc, _+_, _-_, _≤_}
 use mathlib.Core.Bool.{Bool, true, false, cond}
 use mathlib.Core.List.{List}
@@ -12,7 +12,7 @@ use Rattle.trace.specs.declared.cycle.Carried.{Carried}
 use Rattle.trace.specs.Cycle.{pst, reserved, tooSoon, nothing, after, carriedInto}
 use Rattle.trace.specs.Items.{itemsBefore, items, itemsToEnd}
 use Rattle.trace.specs.FromLaws.{cycles-left, items-split}
-use Rattle.trace.specs.Listing.{Told, refusal, counted, earliest, endsInside, reading}
+use Rattle.trace.specs.Listing.{Told, refusal, counted, earliest, reading}
 use Rattle.trace.specs.ListingFrom.{readingFrom}
 use Rattle.trace.specs.JudgeLaws.{passes-any, read-so, read-short, reading-short, reading-whole}
 

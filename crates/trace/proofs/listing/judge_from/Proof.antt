@@ -6,7 +6,6 @@ use native.Mathlib.Nat.{zero-add}
 use native.Mathlib.Omega.{arith}
 use borrow.Author.Needs.{needs}
 use lib.ListN.{length}
-use Rattle.trace.specs.Cycle.{pst}
 use Rattle.trace.specs.Items.{itemsToEnd}
 use Rattle.trace.specs.FromLaws.{count-to-end, to-end-none, items-from-le}
 use Rattle.trace.specs.Listing.{counted, tooLong, earliest, endsInside, judgedFrom}

@@ -1,5 +1,5 @@
 -- The loop's invariant: the words from cycle i on, put at `at`, make of the buffer what all of them make of it as given.
-use mathlib.Core.Path.{_≡_, refl, ap, sym, _∙_}
+use mathlib.Core.Path.{_≡_, refl, ap}
 use Prim.Native.Nat.{_+_, _-_}
 use native.Mathlib.Nat.{zero-add}
 use native.Mathlib.Omega.{arith}
