@@ -2,7 +2,6 @@
 use Prim.Native.Nat.{ℕ, _+_, _*_, _/_, _%_}
 use mathlib.Core.List.{List}
 use lib.ListN.{length}
-use Rattle.trace.specs.declared.cycle.Carried.{Carried}
 use Rattle.trace.specs.declared.cycle.Item.{Item}
 use Rattle.trace.specs.declared.listing.Listing.{Listing}
 use Rattle.trace.specs.Cycle.{carriedInto}
@@ -25,6 +24,10 @@ ofWord cycle word = record { cycle = cycle; items = word / 4096; carried = recor
 -- "a listing may start there": the items from an entry on, whatever trace it is of. How many it says are before it is not read.
 abbrev pub itemsOn : List ℕ → Entry → List Item
 itemsOn trace e = itemsToEnd trace (e .cycle) (e .carried)
+
+-- those from the trace's own entry of a cycle on
+abbrev pub restAt : List ℕ → ℕ → List Item
+restAt trace i = itemsOn trace (entryAt trace i)
 
 -- what a listing from an entry promises, for every entry: the answer, and every word of the buffer
 abbrev pub EntryMeets : List ℕ → Entry → List ℕ → Listing → List ℕ → Type 0

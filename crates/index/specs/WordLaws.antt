@@ -1,11 +1,9 @@
 -- Laws of an entry's word: it fits 32 bits, and the entry is read back from it.
-use Prim.Native.Nat.{ℕ, _+_, _*_, _/_, _%_, _≤_, _<_, _^_}
+use Prim.Native.Nat.{ℕ, _/_, _%_, _≤_, _<_, _^_}
 use mathlib.Core.Path.{_≡_}
 use mathlib.Core.List.{List}
 use native.Mathlib.Omega.{arith}
-use lib.ListN.{length, getD}
-use Rattle.trace.specs.Cycle.{carriedInto}
-use Rattle.trace.specs.Items.{itemsBefore}
+use lib.ListN.{getD}
 use Rattle.trace.specs.ItemLaws.{items-before-le}
 use Rattle.index.specs.declared.Entry.{Entry}
 use Rattle.index.specs.Entry.{entryAt, entryWord, ofWord}

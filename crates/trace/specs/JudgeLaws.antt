@@ -1,9 +1,8 @@
 -- Laws of the judgement: the cycles one after the other, and that it is the same with and without a buffer.
-use mathlib.Core.Path.{_≡_, refl, ap, sym, _∙_}
+use mathlib.Core.Path.{_≡_, refl, sym, _∙_}
 use Prim.Native.Nat.{ℕ, zero, suc, _+_, _-_, _*_, _≤_, _<_}
 use mathlib.Core.Bool.{Bool, true, false, cond}
 use mathlib.Core.List.{List}
-use native.Mathlib.Numerals.{add-one}
 use native.Mathlib.Omega.{arith}
 use lib.Dec.{ltb, eqb}
 use lib.ListN.{length}
@@ -11,7 +10,7 @@ use borrow.Author.Tests.{le-ltb, ltb-false}
 use Rattle.grounds.specs.declared.Ground.the-variants.{ReservedPst, MarkerTooSoon, TraceCutShort, BufferTooShort}
 use Rattle.grounds.specs.Grounds.{number}
 use Rattle.trace.specs.declared.cycle.Carried.{Carried}
-use Rattle.trace.specs.Cycle.{pst, reserved, tooSoon, nothing, after, carriedInto}
+use Rattle.trace.specs.Cycle.{pst, reserved, tooSoon, nothing, after}
 use Rattle.trace.specs.Items.{items, itemsToEnd}
 use Rattle.trace.specs.FromLaws.{cycles-left, items-whole}
 use Rattle.trace.specs.Listing.{Told, refusal, counted, tooLong, earliest, endsInside, tooShort, judgedFrom, judged, listing, reading}

@@ -1,5 +1,5 @@
 -- Laws of a start at a cycle of the trace with what that cycle finds under way: it is read where the whole trace is, and counts the rest.
-use mathlib.Core.Path.{_≡_, refl, ap, sym, _∙_}
+use mathlib.Core.Path.{_≡_, ap, sym, _∙_}
 use Prim.Native.Nat.{ℕ, zero, suc, _+_, _-_, _≤_}
 use mathlib.Core.Bool.{Bool, true, false, cond}
 use mathlib.Core.List.{List}
@@ -12,7 +12,7 @@ use Rattle.trace.specs.declared.cycle.Carried.{Carried}
 use Rattle.trace.specs.Cycle.{pst, reserved, tooSoon, nothing, after, carriedInto}
 use Rattle.trace.specs.Items.{itemsBefore, items, itemsToEnd}
 use Rattle.trace.specs.FromLaws.{cycles-left, items-split}
-use Rattle.trace.specs.Listing.{Told, refusal, counted, earliest, endsInside, reading}
+use Rattle.trace.specs.Listing.{Told, refusal, counted, earliest, reading}
 use Rattle.trace.specs.ListingFrom.{readingFrom}
 use Rattle.trace.specs.JudgeLaws.{passes-any, read-so, read-short, reading-short, reading-whole}
 
@@ -40,14 +40,16 @@ earliest-from : (trace : List ℕ) (m : ℕ) (otherwise : Carried → Told) → 
 unfolding carriedInto
 earliest-from trace m otherwise e zero h = e
 earliest-from trace m otherwise e (suc i) h =
-    rw (add-one i) at (earliest-on trace i (carriedInto trace i) (length trace - (i + 1)) m otherwise (rw (cycles-left (length trace) i (omega arith)) at (earliest-from trace m otherwise e i (omega arith))))
+    let here = rw (cycles-left (length trace) i (omega arith)) at (earliest-from trace m otherwise e i (omega arith)) in
+    rw (add-one i) at (earliest-on trace i (carriedInto trace i) (length trace - (i + 1)) m otherwise here)
 
 -- a trace that can be read can be read from each of its cycles on, and what is counted there is the rest
 pub read-on : (trace : List ℕ) (i n : ℕ) → i ≤ length trace → reading trace ≡ counted n
     → readingFrom trace i (carriedInto trace i) ≡ counted (n - length (itemsBefore trace i))
 read-on trace i n h e =
     reading-short trace i (carriedInto trace i) short
-    ∙ passes-any trace i (carriedInto trace i) (length trace - i) (length (itemsToEnd trace 0 nothing)) n _ (earliest-from trace n _ (sym (reading-short trace 0 nothing short) ∙ first) i h)
+    ∙ passes-any trace i (carriedInto trace i) (length trace - i) (length (itemsToEnd trace 0 nothing)) n _
+    (earliest-from trace n _ (sym (reading-short trace 0 nothing short) ∙ first) i h)
     ∙ ap counted rest
   where
     first : readingFrom trace 0 nothing ≡ counted n

@@ -28,8 +28,8 @@ pub fn count_items(carried: Carried, pst: u8) -> usize
 
 // Whether a trace can be read from a cycle on, which finds so much under way: the number of its items
 // from there on, or the refusal, a buffer aside. No earlier cycle is judged.
-pub fn judge_from(trace: &[u8], cycle: usize, found: Carried) -> Listing
-    ensures { λ r. ⌜ told r ≡ readingFrom (now (trace .entry)) cycle found ⌝ }
+pub fn judge_from(trace: &[u8], from: usize, found: Carried) -> Listing
+    ensures { λ r. ⌜ told r ≡ readingFrom (now (trace .entry)) from found ⌝ }
 {
     if 65536 < trace.len() {
         return Listing::Refused {
@@ -39,7 +39,7 @@ pub fn judge_from(trace: &[u8], cycle: usize, found: Carried) -> Listing
     }
     let mut carried = found;
     let mut items = 0usize;
-    let mut i = cycle;
+    let mut i = from;
     while i < trace.len() {
         let pst = trace[i] / 16;
         if cycle::is_reserved(pst) {
@@ -125,13 +125,13 @@ fn put_cycle(trace: &[u8], out: &mut [u32], at: usize, i: usize, carried: Carrie
 }
 
 // The words of all items from a cycle on, from the front of the buffer on.
-fn put_from(trace: &[u8], out: &mut [u32], cycle: usize, found: Carried)
-    requires { ⌜ (length (now trace) ≤ 65536) × (length (words (itemsToEnd (now trace) cycle found)) ≤ length (now out)) ⌝ }
-    ensures { λ _. ⌜ now (out .exit) ≡ sets (now (out .entry)) 0 (words (itemsToEnd (now (trace .entry)) cycle found)) ⌝ }
+fn put_from(trace: &[u8], out: &mut [u32], from: usize, found: Carried)
+    requires { ⌜ (length (now trace) ≤ 65536) × (length (words (itemsToEnd (now trace) from found)) ≤ length (now out)) ⌝ }
+    ensures { λ _. ⌜ now (out .exit) ≡ sets (now (out .entry)) 0 (words (itemsToEnd (now (trace .entry)) from found)) ⌝ }
 {
     let mut carried = found;
     let mut at = 0usize;
-    let mut i = cycle;
+    let mut i = from;
     while i < trace.len() {
         let pst = trace[i] / 16;
         at = put_cycle(trace, out, at, i, carried, pst);
@@ -142,10 +142,10 @@ fn put_from(trace: &[u8], out: &mut [u32], cycle: usize, found: Carried)
 
 // A listing that starts at a cycle, with what that cycle finds under way: the items from there on.
 // Where neither is the trace's, it is still safe, and judged and listed as if they were.
-pub fn list_from(trace: &[u8], cycle: usize, found: Carried, out: &mut [u32]) -> Listing
-    ensures { λ r. ⌜ ListingFromMeets (now (trace .entry)) cycle found (now (out .entry)) r (now (out .exit)) ⌝ }
+pub fn list_from(trace: &[u8], from: usize, found: Carried, out: &mut [u32]) -> Listing
+    ensures { λ r. ⌜ ListingFromMeets (now (trace .entry)) from found (now (out .entry)) r (now (out .exit)) ⌝ }
 {
-    let judged = judge_from(trace, cycle, found);
+    let judged = judge_from(trace, from, found);
     match judged {
         Listing::Refused { ground, cycle } => Listing::Refused { ground, cycle },
         Listing::Items(count) => {
@@ -155,7 +155,7 @@ pub fn list_from(trace: &[u8], cycle: usize, found: Carried, out: &mut [u32]) ->
                     cycle: 0,
                 };
             }
-            put_from(trace, out, cycle, found);
+            put_from(trace, out, from, found);
             Listing::Items(count)
         }
     }

@@ -22,7 +22,8 @@ use Rattle.walk.specs.StepLaws.{step-read}
 unfoldable pub itemsPast : List ℕ → ℕ → ℕ → Carried → Bool → List Item
 itemsPast trace zero i c past = []
 itemsPast trace (suc n) i c past =
-    (cond (valueNext (c .due) past) (ofValue trace i (c .marker) ∷ []) [] ++ ownItem i (c .run) (pst trace i)) ++ itemsFrom trace (i + 1) (after c (pst trace i)) n
+    (cond (valueNext (c .due) past) (ofValue trace i (c .marker) ∷ []) [] ++ ownItem i (c .run) (pst trace i))
+    ++ itemsFrom trace (i + 1) (after c (pst trace i)) n
 
 -- the items from a place on
 abbrev pub rest : List ℕ → Place → List Item
@@ -41,11 +42,13 @@ Unrolls trace xs place atEnd = (xs ≡ []) × (rest trace place ≡ [])
 Unrolls trace xs place (asRefused ground cycle) = ⊥
 
 from-unrolls : (trace : List ℕ) (start : Listing) (n i : ℕ) (c : Carried) (past : Bool) → length trace - i ≡ n
-    → Unrolls trace (itemsPast trace n i c past) (stepFrom trace start n i c past .place) (stepFrom trace start n i c past .handed) × (stepFrom trace start n i c past .place .start ≡ start)
+    → Unrolls trace (itemsPast trace n i c past) (stepFrom trace start n i c past .place) (stepFrom trace start n i c past .handed)
+    × (stepFrom trace start n i c past .place .start ≡ start)
 unfolding itemsPast stepFrom
 from-unrolls trace start zero i c past e = ((refl, rw e), refl)
 from-unrolls trace start (suc n) i c past e =
-    rw (← none-past trace n (i + 1) (after c (pst trace i))) (by-value (from-unrolls trace start n (i + 1) (after c (pst trace i)) false fewer) (valueNext (c .due) past))
+    rw (← none-past trace n (i + 1) (after c (pst trace i)))
+    (by-value (from-unrolls trace start n (i + 1) (after c (pst trace i)) false fewer) (valueNext (c .due) past))
   where
     fewer : length trace - (i + 1) ≡ n
     fewer = omega arith

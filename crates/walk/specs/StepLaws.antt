@@ -1,6 +1,6 @@
 -- Laws of one step: what the cycle at which the walk stands makes of it.
 use mathlib.Core.Path.{_≡_, ap}
-use Prim.Native.Nat.{ℕ, suc, _+_, _-_, _≤_, _<_}
+use Prim.Native.Nat.{ℕ, _+_, _-_, _≤_, _<_}
 use mathlib.Core.Bool.{Bool, true, false}
 use mathlib.Core.List.{List}
 use native.Mathlib.Omega.{arith}
@@ -12,11 +12,9 @@ use Rattle.trace.specs.declared.listing.Listing.the-variants.{Items, Refused}
 use Rattle.walk.specs.declared.Place.{Place}
 use Rattle.trace.specs.Cycle.{pst, givesOwn, after}
 use Rattle.trace.specs.Items.{ofValue, ofCycle}
+use Rattle.trace.specs.FromLaws.{cycles-left}
 use Rattle.walk.specs.declared.Handed.the-variants.{End as atEnd, Refused as asRefused}
 use Rattle.walk.specs.Walk.{placed, valueNext, handing, stepFrom, stepBy, stepOf}
-
-pub cycles-left : (n i : ℕ) → i < n → n - i ≡ suc (n - (i + 1))
-cycles-left n i h = omega arith
 
 module _ (trace : List ℕ) (start : Listing) (i : ℕ) (c : Carried) (past : Bool) where
   module _ (h : i < length trace) where

@@ -6,7 +6,6 @@ use native.Mathlib.Nat.{zero-add}
 use native.Mathlib.Omega.{arith}
 use borrow.Author.Needs.{needs}
 use lib.ListN.{length}
-use Rattle.trace.specs.Cycle.{pst}
 use Rattle.trace.specs.Items.{itemsToEnd}
 use Rattle.trace.specs.FromLaws.{count-to-end, to-end-none, items-from-le}
 use Rattle.trace.specs.Listing.{counted, tooLong, earliest, endsInside, judgedFrom}
@@ -16,12 +15,12 @@ use Rattle.trace.proofs.listing.judge_from.Statement.{statement}
 use Rattle.trace.proofs.listing.judge_from.Tie as tie
 
 abbrev Inv-loop : tie.InvT-loop
-Inv-loop trace cycle carried₀ items₀ i₀ carried items i =
-    (items + length (itemsToEnd trace i carried) ≡ length (itemsToEnd trace cycle carried₀))
-    × (earliest trace i carried (length trace - i) (endsInside (counted (length (itemsToEnd trace cycle carried₀)))) ≡ readingFrom trace cycle carried₀)
+Inv-loop trace from carried₀ items₀ i₀ carried items i =
+    (items + length (itemsToEnd trace i carried) ≡ length (itemsToEnd trace from carried₀))
+    × (earliest trace i carried (length trace - i) (endsInside (counted (length (itemsToEnd trace from carried₀)))) ≡ readingFrom trace from carried₀)
 
 abbrev μ-loop : tie.MeasureT-loop
-μ-loop trace cycle carried₀ items₀ i₀ carried items i = length trace - i
+μ-loop trace from carried₀ items₀ i₀ carried items i = length trace - i
 
 returns : tie.Need-returns Inv-loop μ-loop
 unfolding readingFrom judgedFrom tooLong
@@ -56,7 +55,8 @@ add-items : tie.Need-add-items Inv-loop μ-loop
 add-items c = let w = c .before .before .before .before .before .before .before .loop in
     let a = c .before .before .before .before .before .before .before .before .before .before .args in
     let trace = a .trace .now in
-    omega (arith, c .count-items .ensures, count-to-end trace (w .i) (w .carried) (omega arith), items-from-le trace (a .cycle) (a .found) (length trace - a .cycle))
+    let e = count-to-end trace (w .i) (w .carried) (omega arith) in
+    omega (arith, c .count-items .ensures, items-from-le trace (a .from) (a .found) (length trace - a .from))
 
 after-cycle-requires : tie.Need-after-cycle-requires Inv-loop μ-loop
 after-cycle-requires c κs = tt
@@ -79,7 +79,7 @@ returns-4 : tie.Need-returns-4 Inv-loop μ-loop
 returns-4 c = let w = c .before .before .before .loop in
     let a = c .before .before .before .before .before .before .args in
     let trace = a .trace .now in
-    let all = counted (length (itemsToEnd trace (a .cycle) (a .found))) in
+    let all = counted (length (itemsToEnd trace (a .from) (a .found))) in
     let e = ap length (to-end-none trace (w .i) (w .carried) (omega arith)) in
     ap counted (omega (arith, w .inv .0)) ∙ rw (eq-eqb _ _ (c .if4 .taken)) at (sym (earliest-ends trace (w .i) (w .carried) all (omega arith))) ∙ w .inv .1
 
@@ -87,7 +87,7 @@ returns-5 : tie.Need-returns-5 Inv-loop μ-loop
 returns-5 c = let w = c .before .before .before .loop in
     let a = c .before .before .before .before .before .before .args in
     let trace = a .trace .now in
-    let all = counted (length (itemsToEnd trace (a .cycle) (a .found))) in
+    let all = counted (length (itemsToEnd trace (a .from) (a .found))) in
     rw (ne-eqb _ _ (c .if4 .left)) at (sym (earliest-ends trace (w .i) (w .carried) all (omega arith))) ∙ w .inv .1
 
 pub judge-from-spec : {M : Type 1} → statement M

@@ -24,15 +24,16 @@ enum-known-judged-2 c = search needs
 returns : tie.Need-returns
 returns c = let a = c .before .before .before .before .before .before .before .args in
     let g = c .before .before .judged2 .given in
-    let e = read-from (a .trace .now) (a .cycle) (a .found) (length (a .out .now)) (g .0 .0) (sym (c .before .before .before .before .judge-from .ensures) ∙ ap told (g .1)) in
+    let reads = sym (c .before .before .before .before .judge-from .ensures) ∙ ap told (g .1) in
+    let e = read-from (a .trace .now) (a .from) (a .found) (length (a .out .now)) (g .0 .0) reads in
     listing-meets _ _ _ _ _ _ (sym (e .1 ∙ short-so _ _ _ (omega (arith, e .0)))) refl
 
 put-from-requires : tie.Need-put-from-requires
 put-from-requires c κs = let a = c .before .before .before .before .before .before .before .before .args in
     let g = c .before .before .before .judged2 .given in
     let e = sym (c .before .before .before .before .before .judge-from .ensures) ∙ ap told (g .1) in
-    let xs = itemsToEnd (a .trace .now) (a .cycle) (a .found) in
-    (read-short _ _ _ (g .0 .0) e, omega (arith, read-from (a .trace .now) (a .cycle) (a .found) 0 (g .0 .0) e .0, length-words xs))
+    let xs = itemsToEnd (a .trace .now) (a .from) (a .found) in
+    (read-short _ _ _ (g .0 .0) e, omega (arith, read-from (a .trace .now) (a .from) (a .found) 0 (g .0 .0) e .0, length-words xs))
 
 returns-2 : tie.Need-returns-2
 returns-2 c = let g = c .before .judged .given in
@@ -44,8 +45,9 @@ same-length c = search needs
 returns-3 : tie.Need-returns-3
 returns-3 c = let a = c .before .before .before .before .before .before .before .before .before .before .before .args in
     let g = c .before .before .before .before .before .before .judged2 .given in
-    let e = read-from (a .trace .now) (a .cycle) (a .found) (length (a .out .now)) (g .0 .0) (sym (c .before .before .before .before .before .before .before .before .judge-from .ensures) ∙ ap told (g .1)) in
-    let xs = itemsToEnd (a .trace .now) (a .cycle) (a .found) in
+    let reads = sym (c .before .before .before .before .before .before .before .before .judge-from .ensures) ∙ ap told (g .1) in
+    let e = read-from (a .trace .now) (a .from) (a .found) (length (a .out .now)) (g .0 .0) reads in
+    let xs = itemsToEnd (a .trace .now) (a .from) (a .found) in
     listing-meets _ _ _ _ _ _
     (ap counted (e .0) ∙ sym (e .1 ∙ room-so _ _ _ (omega (arith, e .0))))
     (c .before .before .put-from .ensures ∙ sets-front (words xs) (a .out .now) (omega (arith, e .0, length-words xs)))

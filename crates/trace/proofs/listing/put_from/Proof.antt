@@ -1,5 +1,5 @@
 -- The loop's invariant: the words from cycle i on, put at `at`, make of the buffer what all of them make of it as given.
-use mathlib.Core.Path.{_≡_, refl, ap, sym, _∙_}
+use mathlib.Core.Path.{_≡_, refl, ap}
 use Prim.Native.Nat.{_+_, _-_}
 use native.Mathlib.Nat.{zero-add}
 use native.Mathlib.Omega.{arith}
@@ -14,13 +14,13 @@ use Rattle.trace.proofs.listing.put_from.Statement.{statement}
 use Rattle.trace.proofs.listing.put_from.Tie as tie
 
 abbrev Inv-loop : tie.InvT-loop
-Inv-loop trace out₀ cycle carried₀ at₀ i₀ out carried at i =
+Inv-loop trace out₀ from carried₀ at₀ i₀ out carried at i =
     (length out ≡ length out₀)
-    × (at + length (words (itemsToEnd trace i carried)) ≡ length (words (itemsToEnd trace cycle carried₀)))
-    × (sets out at (words (itemsToEnd trace i carried)) ≡ sets out₀ 0 (words (itemsToEnd trace cycle carried₀)))
+    × (at + length (words (itemsToEnd trace i carried)) ≡ length (words (itemsToEnd trace from carried₀)))
+    × (sets out at (words (itemsToEnd trace i carried)) ≡ sets out₀ 0 (words (itemsToEnd trace from carried₀)))
 
 abbrev μ-loop : tie.MeasureT-loop
-μ-loop trace out₀ cycle carried₀ at₀ i₀ out carried at i = length trace - i
+μ-loop trace out₀ from carried₀ at₀ i₀ out carried at i = length trace - i
 
 loop-holds : tie.Need-loop-holds Inv-loop μ-loop
 loop-holds c = (refl, zero-add _, refl)
