@@ -10,3 +10,4 @@ pub mod OrderLaws
 pub mod SumLaws
 pub mod RateLaws
 pub mod Examples
+pub mod ReadLaws

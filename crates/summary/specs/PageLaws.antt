@@ -1,10 +1,11 @@
 -- Laws of the page: the promise in each of its cases, and that no second page fits.
 use mathlib.Core.Path.{_≡_, refl, ap, sym, _∙_}
 use Prim.Native.Nat.{ℕ, _≤_, _<_}
-use mathlib.Core.List.{List}
+use mathlib.Core.List.{List, _++_}
+use native.Mathlib.Nat.{zero-add}
 use native.Mathlib.Omega.{arith}
-use lib.ListN.{length}
-use lib.Seq.{sets}
+use lib.ListN.{length, drop}
+use lib.Seq.{sets, paste, take-at}
 use borrow.Author.Tests.{lt-ltb, le-ltb}
 use Rattle.grounds.specs.declared.Ground.{Ground}
 use Rattle.grounds.specs.declared.Ground.the-variants.{BufferTooShort}
@@ -23,6 +24,18 @@ use Rattle.summary.specs.Page.{pageOf, blank, pageBy, indexShort, summar
 length-index : (trace : List ℕ) → length (indexWords trace) ≡ entryCount (length trace)
 unfolding indexWords
 length-index trace = length-entries trace (entryCount (length trace))
+
+-- the index copied from where it was gathered
+index-copied : (trace before entries : List ℕ) → entryCount (length trace) ≤ length entries
+    → paste before 0 (sets entries 0 (indexWords trace)) (entryCount (length trace)) ≡ indexWords trace ++ drop (length (indexWords trace)) before
+index-copied trace before entries h =
+    rw (sets-front W entries (omega (arith, length-index trace)), zero-add n, take-at W (drop (length W) entries) n (length-index trace), length-index trace)
+  where
+    W : List ℕ
+    W = indexWords trace
+
+    n : ℕ
+    n = entryCount (length trace)
 
 module _ (trace before : List ℕ) (r : Page) where
   meets : {after : List ℕ} → told (r .judged) ≡ summary trace (length before) → r ≡ pageBy trace (r .judged)
@@ -49,13 +62,14 @@ module _ (trace before : List ℕ) (r : Page) where
         (rw p refl)
 
     -- one that is read
-    pub page-read : {after : List ℕ} → entryCount (length trace) ≤ length before → r ≡ pageOf trace n → after ≡ sets before 0 (indexWords trace) → PageMeets trace before r after
+    pub page-read : (entries : List ℕ) {after : List ℕ} → entryCount (length trace) ≤ length before → entryCount (length trace) ≤ length entries → r ≡ pageOf trace n
+        → after ≡ paste before 0 (sets entries 0 (indexWords trace)) (entryCount (length trace)) → PageMeets trace before r after
     unfolding summary indexShort
-    page-read h p w =
+    page-read entries h k p w =
         meets
         (rw p (ap counted (read-whatever trace n e .0) ∙ sym (read-whatever trace n e .1 (indexShort trace (length before) (counted (length (items trace)))) ∙ rw (le-ltb (length before) (entryCount (length trace)) h) refl)))
         (rw p refl)
-        (rw p (w ∙ sets-front (indexWords trace) before (omega (arith, length-index trace))))
+        (rw p (w ∙ index-copied trace before entries k))
 
 -- no second page fits, and no second buffer
 pub page-one : {trace before after after′ : List ℕ} {r r′ : Page} → PageMeets trace before r after → PageMeets trace before r′ after′ → (r ≡ r′) × (after ≡ after′)

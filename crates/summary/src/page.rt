@@ -2,14 +2,12 @@
 use crate::tally;
 use grounds::Ground;
 use rate::Rate;
-use trace::listing;
 use trace::listing::Listing;
 ghost use mathlib.Core.Path.{_≡_};
 ghost use Prim.Native.Nat.{_≤_};
 ghost use lib.ListN.{length};
-ghost use lib.Seq.{sets};
-ghost use Rattle.summary.specs.Index.{entryCount, indexWords};
-ghost use Rattle.summary.specs.Page.{blank, pageOf, PageMeets};
+ghost use lib.Seq.{paste};
+ghost use Rattle.summary.specs.Page.{blank, PageMeets};
 
 // How the trace was judged, with the number of its items; its cycles, instruction starts and rate; and of each code how many items,
 // the first cycle and the last (0 where it has none). All numbers are 0 where the trace was refused.
@@ -37,41 +35,48 @@ fn refuse(ground: Ground, cycle: usize) -> Page
     }
 }
 
-// The page of a trace that can be read, of so many items.
-fn fill(trace: &[u8], index: &mut [u32], items: usize) -> Page
-    requires { ⌜ (length (now trace) ≤ 65536) × (entryCount (length (now trace)) ≤ length (now index)) ⌝ }
-    ensures { λ r. ⌜ (r ≡ pageOf (now (trace .entry)) items) × (now (index .exit) ≡ sets (now (index .entry)) 0 (indexWords (now (trace .entry)))) ⌝ }
+// The first entries, at the front of the index.
+fn copy_entries(index: &mut [u32], entries: &[u32], n: usize)
+    requires { ⌜ (n ≤ length (now index)) × (n ≤ length (now entries)) ⌝ }
+    ensures { λ _. ⌜ now (index .exit) ≡ paste (now (index .entry)) 0 (now (entries .entry)) n ⌝ }
+{
+    let mut k = 0usize;
+    while k < n {
+        index[k] = entries[k];
+        k += 1;
+    }
+}
+
+// The page of a trace; its index then stands at the front of the buffer, one word an entry. The trace is read once, so what is noted
+// is kept apart until nothing can be refused any more.
+pub fn make_page(trace: &[u8], index: &mut [u32]) -> Page
+    ensures { λ r. ⌜ PageMeets (now (trace .entry)) (now (index .entry)) r (now (index .exit)) ⌝ }
 {
     let mut counts = [0u32; 16];
     let mut firsts = [0u32; 16];
     let mut lasts = [0u32; 16];
-    tally::tally_trace(trace, &mut counts, &mut firsts, &mut lasts, index);
-    let cycles = trace.len() as u32;
-    let starts = counts[1] + counts[4] + counts[5] + counts[7];
-    let rate = rate::rate_of(cycles, starts);
-    Page {
-        judged: Listing::Items(items),
-        cycles,
-        starts,
-        rate,
-        counts,
-        firsts,
-        lasts,
-    }
-}
-
-// The page of a trace; its index then stands at the front of the buffer, one word an entry.
-pub fn make_page(trace: &[u8], index: &mut [u32]) -> Page
-    ensures { λ r. ⌜ PageMeets (now (trace .entry)) (now (index .entry)) r (now (index .exit)) ⌝ }
-{
-    let judged = listing::judge_trace(trace);
+    let mut entries = [0u32; 256];
+    let judged = tally::tally_trace(trace, &mut counts, &mut firsts, &mut lasts, &mut entries);
     match judged {
         Listing::Refused { ground, cycle } => refuse(ground, cycle),
         Listing::Items(items) => {
-            if index.len() < (trace.len() + 255) / 256 {
+            let needed = (trace.len() + 255) / 256;
+            if index.len() < needed {
                 return refuse(Ground::BufferTooShort, 0);
             }
-            fill(trace, index, items)
+            copy_entries(index, &entries, needed);
+            let cycles = trace.len() as u32;
+            let starts = counts[1] + counts[4] + counts[5] + counts[7];
+            let rate = rate::rate_of(cycles, starts);
+            Page {
+                judged: Listing::Items(items),
+                cycles,
+                starts,
+                rate,
+                counts,
+                firsts,
+                lasts,
+            }
         }
     }
 }

@@ -1,18 +1,20 @@
 // The tally of a trace: for each of the sixteen codes how many items, the first cycle and the last; and the words of its index.
+use grounds::Ground;
 use trace::cycle;
 use trace::cycle::Carried;
 use trace::listing;
+use trace::listing::Listing;
 ghost use mathlib.Core.Path.{_≡_};
 ghost use Prim.Native.Nat.{_+_, _*_, _/_, _%_, _≤_, _<_};
 ghost use mathlib.Core.Bool.{cond};
 ghost use mathlib.Core.List.{[]};
 ghost use lib.Dec.{eqb};
-ghost use lib.ListN.{length, getD, set};
-ghost use lib.Seq.{sets};
-ghost use Rattle.trace.specs.Items.{ownItem, items};
+ghost use lib.ListN.{getD, set};
+ghost use Rattle.trace.specs.Items.{ownItem};
+ghost use Rattle.trace.specs.Listing.{told, reading};
 ghost use Rattle.index.specs.Entry.{entryWord};
 ghost use Rattle.summary.specs.Tally.{Tallied, Notes, NotesValue};
-ghost use Rattle.summary.specs.Index.{entryCount, indexWords};
+ghost use Rattle.summary.specs.Index.{ReadTallied};
 
 fn first_cycle(count: u32, first: u32, cycle: u32) -> u32
     ensures { λ r. ⌜ r ≡ cond (eqb count 0) cycle first ⌝ }
@@ -70,39 +72,65 @@ fn note_own(
 }
 
 // The entry of every 256th cycle, one word each.
-fn put_entry(index: &mut [u32], i: usize, items: usize, carried: Carried)
-    requires { ⌜ (items ≤ 131072) × (entryCount (i + 1) ≤ length (now index)) ⌝ }
-    ensures { λ _. ⌜ now (index .exit) ≡ cond (eqb (i % 256) 0) (set (now (index .entry)) (i / 256) (entryWord (record { cycle = i; items = items; carried = carried }))) (now (index .entry)) ⌝ }
+fn put_entry(entries: &mut [u32; 256], i: usize, items: usize, carried: Carried)
+    requires { ⌜ (i < 65536) × (items ≤ 131072) ⌝ }
+    ensures { λ _. ⌜ now (entries .exit) ≡ cond (eqb (i % 256) 0) (set (now (entries .entry)) (i / 256) (entryWord (record { cycle = i; items = items; carried = carried }))) (now (entries .entry)) ⌝ }
 {
     if i % 256 == 0 {
-        index[i / 256] = (items as u32) * 4096
+        entries[i / 256] = (items as u32) * 4096
             + (carried.marker as u32) * 256
             + (carried.due as u32) * 16
             + (carried.run as u32);
     }
 }
 
-// All items of a trace noted, and its index from the front of the buffer on.
+// A trace judged as the reader judges it, and in the same pass all its items noted and its index put from the front of the entries on.
+// Of a trace that is refused nothing else is said.
 pub fn tally_trace(
     trace: &[u8],
     counts: &mut [u32; 16],
     firsts: &mut [u32; 16],
     lasts: &mut [u32; 16],
-    index: &mut [u32],
-)
-    requires { ⌜ (length (now trace) ≤ 65536) × (entryCount (length (now trace)) ≤ length (now index)) × Tallied [] (now counts) (now firsts) (now lasts) ⌝ }
-    ensures { λ _. ⌜ Tallied (items (now (trace .entry))) (now (counts .exit)) (now (firsts .exit)) (now (lasts .exit)) × (now (index .exit) ≡ sets (now (index .entry)) 0 (indexWords (now (trace .entry)))) ⌝ }
+    entries: &mut [u32; 256],
+) -> Listing
+    requires { ⌜ Tallied [] (now counts) (now firsts) (now lasts) ⌝ }
+    ensures { λ r. ⌜ (told r ≡ reading (now (trace .entry))) × ReadTallied (now (trace .entry)) (now (entries .entry)) r (now (counts .exit)) (now (firsts .exit)) (now (lasts .exit)) (now (entries .exit)) ⌝ }
 {
+    if 65536 < trace.len() {
+        return Listing::Refused {
+            ground: Ground::TraceTooLong,
+            cycle: 0,
+        };
+    }
     let mut carried = cycle::nothing_carried();
     let mut items = 0usize;
     let mut i = 0usize;
     while i < trace.len() {
         let pst = trace[i] / 16;
-        put_entry(index, i, items, carried);
+        if cycle::is_reserved(pst) {
+            return Listing::Refused {
+                ground: Ground::ReservedPst,
+                cycle: i,
+            };
+        }
+        if cycle::comes_too_soon(carried.due, pst) {
+            return Listing::Refused {
+                ground: Ground::MarkerTooSoon,
+                cycle: i,
+            };
+        }
+        put_entry(entries, i, items, carried);
         note_value(counts, firsts, lasts, i, carried);
         note_own(counts, firsts, lasts, i, carried.run, pst);
         items += listing::count_items(carried, pst);
         carried = cycle::after_cycle(carried, pst);
         i += 1;
+    }
+    if carried.due == 0 {
+        return Listing::Items(items);
+    }
+    Listing::Refused {
+        ground: Ground::TraceCutShort,
+        cycle: 0,
     }
 }

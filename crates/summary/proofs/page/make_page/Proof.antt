@@ -1,79 +1,156 @@
--- Each answer of the judgement is the page's, but for the index buffer, which is judged last.
+-- Each answer of the judgement is the page's, but for the index buffer, which is judged last. The starts are the numbers of four codes.
 use mathlib.Core.Path.{ap, sym, _∙_}
+use Prim.Native.Nat.{ℕ}
+use mathlib.Core.List.{List}
 use native.Mathlib.Omega.{arith}
+use lib.ListN.{length, replicate, length-replicate}
+use lib.Seq.{paste}
 use Rattle.trace.specs.Cycle.{nothing}
 use Rattle.trace.specs.Listing.{told}
 use Rattle.trace.specs.JudgeLaws.{read-short, reading-whole}
+use Rattle.trace.specs.StoreLaws.{length-stored}
+use Rattle.summary.specs.TallyLaws.{nothing-noted}
+use Rattle.summary.specs.StartLaws.{starts-tallied, count-small}
+use Rattle.summary.specs.Index.{entryCount, indexWords}
 use Rattle.summary.specs.PageLaws.{page-refused, page-short, page-read}
 use borrow.Author.Needs.{needs}
 use Rattle.summary.proofs.page.make_page.Statement.{statement}
 use Rattle.summary.proofs.page.make_page.Tie as tie
 use Rattle.summary.proofs.page.make_page.Reads as reads
 use Rattle.summary.proofs.page.make_page.Lts as lts
-use Rattle.summary.proofs.page.fill.Reads as fill-reads
+use Rattle.rate.proofs.rate_of.Reads as rate-of-reads
+use Rattle.summary.proofs.page.copy_entries.Reads as copy-entries-reads
 use Rattle.summary.proofs.page.refuse.Reads as refuse-reads
-use Rattle.trace.proofs.listing.judge_trace.Reads as judge-trace-reads
+use Rattle.summary.proofs.tally.tally_trace.Reads as tally-trace-reads
 
--- src/page.rt:67:9
-judge-trace-requires : tie.Need-judge-trace-requires
-judge-trace-requires c κs = search needs
+-- src/page.rt:59:9
+tally-trace-requires : tie.Need-tally-trace-requires
+tally-trace-requires c κs = nothing-noted
 
--- src/page.rt:69:28
+-- src/page.rt:61:28
 enum-known-judged : tie.Need-enum-known-judged
 enum-known-judged c = search needs
 
--- src/page.rt:69:47
+-- src/page.rt:61:47
 refuse-requires : tie.Need-refuse-requires
 refuse-requires c κs = search needs
 
--- src/page.rt:70:24
+-- src/page.rt:62:24
 enum-known-judged-2 : tie.Need-enum-known-judged-2
 enum-known-judged-2 c = search needs
 
--- src/page.rt:71:31
-add-if1 : tie.Need-add-if1
-add-if1 c = search needs
+-- src/page.rt:63:27
+add-needed : tie.Need-add-needed
+add-needed c = search needs
 
--- src/page.rt:72:17
+-- src/page.rt:65:17
 refuse-requires-2 : tie.Need-refuse-requires-2
 refuse-requires-2 c κs = search needs
 
--- src/page.rt:72:17
+-- src/page.rt:65:17
 returns : tie.Need-returns
-returns c = let e = sym (c .before .before .before .before .before .judge-trace .ensures) ∙ ap told (c .before .before .before .judged2 .given .1) in
-    page-short _ _ _ _ e (omega arith) (c .refuse2 .ensures)
+returns c = page-short _ _ _ _ (sym (c .before .before .before .before .before .tally-trace .ensures .0) ∙ ap told (c .before .before .before .judged2 .given .1)) (omega arith) (c .refuse2 .ensures)
 
--- src/page.rt:74:13
-fill-requires : tie.Need-fill-requires
-fill-requires c κs = let e = sym (c .before .before .before .before .before .judge-trace .ensures) ∙ ap told (c .before .before .before .judged2 .given .1) in
-    (read-short _ 0 nothing _ (reading-whole _ ∙ e), omega arith)
+slice-aggregate-copy-entries : tie.Need-slice-aggregate-copy-entries
+slice-aggregate-copy-entries c = let t = rw (c .before .before .before .before .judged2 .given .1) at (c .before .before .before .before .before .before .tally-trace .ensures .1) in
+    sym (length-stored (replicate 256 0) (indexWords (c .before .before .before .before .before .before .before .before .before .before .before .before .before .args .trace .now)) 0 (t .1) ∙ length-replicate {A = ℕ} 256 0)
 
--- src/page.rt:64:1
+-- src/page.rt:67:13
+copy-entries-requires : tie.Need-copy-entries-requires
+copy-entries-requires c κs = let e = sym (c .before .before .before .before .before .before .tally-trace .ensures .0) ∙ ap told (c .before .before .before .before .judged2 .given .1) in
+    let t = rw (c .before .before .before .before .judged2 .given .1) at (c .before .before .before .before .before .before .tally-trace .ensures .1) in
+    let k = read-short _ 0 nothing _ (reading-whole _ ∙ e) in
+    (search needs, omega (arith, k, length-stored (replicate 256 0) (indexWords (c .before .before .before .before .before .before .before .before .before .before .before .before .before .args .trace .now)) 0 (t .1), length-replicate {A = ℕ} 256 0))
+
+-- src/page.rt:68:26
+cast-cycles : tie.Need-cast-cycles
+cast-cycles c = let e = sym (c .before .before .before .before .before .before .before .before .before .tally-trace .ensures .0) ∙ ap told (c .before .before .before .before .before .before .before .judged2 .given .1) in
+    omega (arith, read-short _ 0 nothing _ (reading-whole _ ∙ e))
+
+-- src/page.rt:69:26
+array-read-starts : tie.Need-array-read-starts
+array-read-starts c = search needs
+
+-- src/page.rt:69:38
+array-read-starts-2 : tie.Need-array-read-starts-2
+array-read-starts-2 c = search needs
+
+-- src/page.rt:69:26
+add-starts : tie.Need-add-starts
+add-starts c = let e = sym (c .before .before .before .before .before .before .before .before .before .tally-trace .ensures .0) ∙ ap told (c .before .before .before .before .before .before .before .judged2 .given .1) in
+    let t = (rw (c .before .before .before .before .before .before .before .judged2 .given .1) at (c .before .before .before .before .before .before .before .before .before .tally-trace .ensures .1)) .0 in
+    let trace = c .before .before .before .before .before .before .before .before .before .before .before .before .before .before .before .before .args .trace .now in
+    let k = read-short trace 0 nothing _ (reading-whole trace ∙ e) in
+    omega (arith, count-small trace 1 (omega arith) k t, count-small trace 4 (omega arith) k t, count-small trace 5 (omega arith) k t, count-small trace 7 (omega arith) k t)
+
+-- src/page.rt:69:50
+array-read-starts-3 : tie.Need-array-read-starts-3
+array-read-starts-3 c = search needs
+
+-- src/page.rt:69:26
+add-starts-2 : tie.Need-add-starts-2
+add-starts-2 c = let e = sym (c .before .before .before .before .before .before .before .before .before .tally-trace .ensures .0) ∙ ap told (c .before .before .before .before .before .before .before .judged2 .given .1) in
+    let t = (rw (c .before .before .before .before .before .before .before .judged2 .given .1) at (c .before .before .before .before .before .before .before .before .before .tally-trace .ensures .1)) .0 in
+    let trace = c .before .before .before .before .before .before .before .before .before .before .before .before .before .before .before .before .args .trace .now in
+    let k = read-short trace 0 nothing _ (reading-whole trace ∙ e) in
+    omega (arith, count-small trace 1 (omega arith) k t, count-small trace 4 (omega arith) k t, count-small trace 5 (omega arith) k t, count-small trace 7 (omega arith) k t)
+
+-- src/page.rt:69:62
+array-read-starts-4 : tie.Need-array-read-starts-4
+array-read-starts-4 c = search needs
+
+-- src/page.rt:69:26
+add-starts-3 : tie.Need-add-starts-3
+add-starts-3 c = let e = sym (c .before .before .before .before .before .before .before .before .before .tally-trace .ensures .0) ∙ ap told (c .before .before .before .before .before .before .before .judged2 .given .1) in
+    let t = (rw (c .before .before .before .before .before .before .before .judged2 .given .1) at (c .before .before .before .before .before .before .before .before .before .tally-trace .ensures .1)) .0 in
+    let trace = c .before .before .before .before .before .before .before .before .before .before .before .before .before .before .before .before .args .trace .now in
+    let k = read-short trace 0 nothing _ (reading-whole trace ∙ e) in
+    omega (arith, count-small trace 1 (omega arith) k t, count-small trace 4 (omega arith) k t, count-small trace 5 (omega arith) k t, count-small trace 7 (omega arith) k t)
+
+-- src/page.rt:70:17
+rate-of-requires : tie.Need-rate-of-requires
+rate-of-requires c κs = search needs
+
+-- src/page.rt:52:1
 returns-2 : tie.Need-returns-2
-returns-2 c = page-refused _ _ _ _ _ (sym (c .before .before .before .before .judge-trace .ensures) ∙ ap told (c .before .before .judged .given .1)) (c .refuse .ensures)
+returns-2 c = page-refused _ _ _ _ _ (sym (c .before .before .before .before .tally-trace .ensures .0) ∙ ap told (c .before .before .judged .given .1)) (c .refuse .ensures)
 
--- src/page.rt:64:1
+-- src/page.rt:52:1
 same-length : tie.Need-same-length
 same-length c = search needs
 
--- src/page.rt:64:1
+-- src/page.rt:52:1
 returns-3 : tie.Need-returns-3
-returns-3 c = let e = sym (c .before .before .before .before .before .before .before .before .judge-trace .ensures) ∙ ap told (c .before .before .before .before .before .before .judged2 .given .1) in
-    let f = c .before .before .fill .ensures in
-    page-read _ _ _ _ e (omega arith) (f .0) (f .1)
+returns-3 c = let e = sym (c .before .before .before .before .before .before .before .before .before .before .tally-trace .ensures .0) ∙ ap told (c .before .before .before .before .before .before .before .before .judged2 .given .1) in
+    let t = rw (c .before .before .before .before .before .before .before .before .judged2 .given .1) at (c .before .before .before .before .before .before .before .before .before .before .tally-trace .ensures .1) in
+    let a = c .before .before .before .before .before .before .before .before .before .before .before .before .before .before .before .before .before .args in
+    let k = read-short (a .trace .now) 0 nothing _ (reading-whole (a .trace .now) ∙ e) in
+    page-read _ _ _ _ e (replicate 256 0) (omega arith) (omega (arith, length-replicate {A = ℕ} 256 0))
+    (rw (c .rate-of .ensures, starts-tallied (t .0), ← t .0 .count, ← t .0 .first, ← t .0 .last))
+    (c .before .before .before .copy-entries .ensures ∙ ap (λ (l : List ℕ). paste (a .index .now) 0 l (entryCount (length (a .trace .now)))) (t .1))
 
 pub make-page-spec : {M : Type 1} → statement M
 make-page-spec =
     tie.close
     (tie.spec
-    judge-trace-requires
+    tally-trace-requires
     enum-known-judged
     refuse-requires
     enum-known-judged-2
-    add-if1
+    add-needed
     refuse-requires-2
     returns
-    fill-requires
+    slice-aggregate-copy-entries
+    copy-entries-requires
+    cast-cycles
+    array-read-starts
+    array-read-starts-2
+    add-starts
+    array-read-starts-3
+    add-starts-2
+    array-read-starts-4
+    add-starts-3
+    rate-of-requires
     returns-2
     same-length
     returns-3)

@@ -1,5 +1,7 @@
--- The loop's invariant: the rows are the tally of the items before cycle i, and the buffer holds the entries of the cycles before it.
-use mathlib.Core.Path.{_≡_, refl, _∙_}
+-- The loop's invariant: the rows are the tally of the items before cycle i, the entries those of the cycles before it, and judging from cycle i on
+-- is judging the trace.
+use borrow.Author.Tests.{eq-eqb, ne-eqb}
+use mathlib.Core.Path.{_≡_, refl, ap, sym, _∙_}
 use Prim.Native.Nat.{_+_, _-_, _≤_, _<_}
 use mathlib.Core.List.{_++_}
 use native.Mathlib.Omega.{arith}
@@ -9,12 +11,14 @@ use Rattle.trace.specs.Cycle.{pst, carriedInto}
 use Rattle.trace.specs.CycleLaws.{carried-next}
 use Rattle.trace.specs.Items.{valueItem, itemsBefore, items}
 use Rattle.trace.specs.ItemLaws.{count-le, count-next, items-before-le}
-use Rattle.trace.specs.StoreLaws.{length-stored}
+use Rattle.trace.specs.Listing.{counted}
+use Rattle.trace.specs.JudgeLaws.{earliest-reserved, earliest-too-soon, earliest-passes, earliest-ends}
 use Rattle.index.specs.RangeLaws.{marker-at-most}
 use Rattle.summary.specs.Tally.{Tallied}
 use Rattle.summary.specs.CycleLaws.{cycle-noted, items-with-value, room-for-one}
 use Rattle.summary.specs.Index.{entryCount, firstEntries, indexWords}
 use Rattle.summary.specs.IndexLaws.{entry-next}
+use Rattle.summary.specs.ReadLaws.{Judging, judging-starts, too-long-so}
 use borrow.Author.Needs.{needs}
 use Rattle.summary.proofs.tally.tally_trace.Statement.{statement}
 use Rattle.summary.proofs.tally.tally_trace.Tie as tie
@@ -24,99 +28,131 @@ use Rattle.summary.proofs.tally.note_own.Reads as note-own-reads
 use Rattle.summary.proofs.tally.note_value.Reads as note-value-reads
 use Rattle.summary.proofs.tally.put_entry.Reads as put-entry-reads
 use Rattle.trace.proofs.cycle.after_cycle.Reads as after-cycle-reads
+use Rattle.trace.proofs.cycle.comes_too_soon.Reads as comes-too-soon-reads
+use Rattle.trace.proofs.cycle.is_reserved.Reads as is-reserved-reads
 use Rattle.trace.proofs.cycle.nothing_carried.Reads as nothing-carried-reads
 use Rattle.trace.proofs.listing.count_items.Reads as count-items-reads
 
 abbrev Inv-loop : tie.InvT-loop
-Inv-loop trace counts₀ firsts₀ lasts₀ index₀ carried₀ items₀ i₀ counts firsts lasts index carried items i =
-    (i ≤ length trace) × (carried ≡ carriedInto trace i) × (items ≡ length (itemsBefore trace i)) × Tallied (itemsBefore trace i) counts firsts lasts × (length index ≡ length index₀) × (index ≡ sets index₀ 0 (firstEntries trace (entryCount i)))
+Inv-loop trace counts₀ firsts₀ lasts₀ entries₀ carried₀ items₀ i₀ counts firsts lasts entries carried items i =
+    (i ≤ length trace) × (carried ≡ carriedInto trace i) × (items ≡ length (itemsBefore trace i)) × Tallied (itemsBefore trace i) counts firsts lasts
+    × (entries ≡ sets entries₀ 0 (firstEntries trace (entryCount i))) × Judging trace i carried
 
 abbrev μ-loop : tie.MeasureT-loop
-μ-loop trace counts₀ firsts₀ lasts₀ index₀ carried₀ items₀ i₀ counts firsts lasts index carried items i =
+μ-loop trace counts₀ firsts₀ lasts₀ entries₀ carried₀ items₀ i₀ counts firsts lasts entries carried items i =
     length trace - i
 
--- src/tally.rt:96:9
+-- src/tally.rt:100:9
+returns : tie.Need-returns Inv-loop μ-loop
+returns c = (too-long-so _ (search needs), tt)
+
+-- src/tally.rt:105:9
 nothing-carried-requires : tie.Need-nothing-carried-requires Inv-loop μ-loop
 nothing-carried-requires c κs = tt
 
--- src/tally.rt:99:5
+-- src/tally.rt:108:5
 loop-holds : tie.Need-loop-holds Inv-loop μ-loop
 unfolding carriedInto itemsBefore firstEntries
-loop-holds c = (search needs, c .nothing-carried .ensures, refl, c .before .before .before .pre .2, refl, refl)
+loop-holds c = (search needs, c .nothing-carried .ensures, refl, c .before .before .before .pre, refl, judging-starts _ _ (search needs) (c .nothing-carried .ensures))
 
--- src/tally.rt:100:19
+-- src/tally.rt:109:19
 shared-slice-read-pst : tie.Need-shared-slice-read-pst Inv-loop μ-loop
 shared-slice-read-pst c = search needs
 
--- src/tally.rt:101:9
-put-entry-requires : tie.Need-put-entry-requires Inv-loop μ-loop
-put-entry-requires c κs = let w = c .before .before .before .loop in
-    let a = c .before .before .before .before .before .before .before in
-    (omega (arith, w .inv .2, items-before-le (a .args .trace .now) (w .i)), omega (arith, w .inv .4))
+-- src/tally.rt:110:12
+is-reserved-requires : tie.Need-is-reserved-requires Inv-loop μ-loop
+is-reserved-requires c κs = tt
 
--- src/tally.rt:102:9
+-- src/tally.rt:111:13
+returns-2 : tie.Need-returns-2 Inv-loop μ-loop
+returns-2 c = let w = c .before .before .before .before .loop in
+    (sym (earliest-reserved _ (w .i) _ _ (search needs) (sym (c .before .is-reserved .ensures) ∙ c .if2 .taken)) ∙ w .inv .5, tt)
+
+-- src/tally.rt:116:12
+comes-too-soon-requires : tie.Need-comes-too-soon-requires Inv-loop μ-loop
+comes-too-soon-requires c κs = tt
+
+-- src/tally.rt:117:13
+returns-3 : tie.Need-returns-3 Inv-loop μ-loop
+returns-3 c = let w = c .before .before .before .before .before .before .loop in
+    let r = sym (c .before .before .before .is-reserved .ensures) ∙ c .before .before .if2 .left in
+    let s = sym (c .before .comes-too-soon .ensures) ∙ c .if3 .taken in
+    (sym (earliest-too-soon _ (w .i) _ _ (search needs) r s) ∙ w .inv .5, tt)
+
+-- src/tally.rt:122:9
+put-entry-requires : tie.Need-put-entry-requires Inv-loop μ-loop
+put-entry-requires c κs = let w = c .before .before .before .before .before .before .before .loop in
+    (search needs, omega (arith, w .inv .2, items-before-le (c .before .before .before .before .before .before .before .before .before .before .before .args .trace .now) (w .i)))
+
+-- src/tally.rt:123:9
 note-value-requires : tie.Need-note-value-requires Inv-loop μ-loop
-note-value-requires c κs = let w = c .before .before .before .before .before .before .before .before .before .loop in
-    let trace = c .before .before .before .before .before .before .before .before .before .before .before .before .before .args .trace .now in
+note-value-requires c κs = let w = c .before .before .before .before .before .before .before .before .before .before .before .loop in
+    let trace = c .before .before .before .before .before .before .before .before .before .before .before .before .before .before .before .args .trace .now in
     let m : w .carried .marker < 16 = rw (w .inv .1) (omega (arith, marker-at-most trace (w .i))) in
     (search needs, m, room-for-one (itemsBefore trace (w .i)) (w .carried .marker) m (omega (arith, items-before-le trace (w .i))) (w .inv .3))
 
--- src/tally.rt:103:9
+-- src/tally.rt:124:9
 note-own-requires : tie.Need-note-own-requires Inv-loop μ-loop
-note-own-requires c κs = let w = c .before .before .before .before .before .before .before .before .before .before .before .before .before .loop in
-    let trace = c .before .before .before .before .before .before .before .before .before .before .before .before .before .before .before .before .before .args .trace .now in
+note-own-requires c κs = let w = c .before .before .before .before .before .before .before .before .before .before .before .before .before .before .before .loop in
+    let trace = c .before .before .before .before .before .before .before .before .before .before .before .before .before .before .before .before .before .before .before .args .trace .now in
     let t = c .before .before .before .note-value .ensures trace (itemsBefore trace (w .i)) (w .inv .3) in
-    let p : pst trace (w .i) < 16 = omega (arith, c .before .before .before .before .before .before .before .before .before .before .before .shared-slice-known2 .given (w .i) .fits) in
+    let p : pst trace (w .i) < 16 = omega (arith, c .before .before .before .before .before .before .before .before .before .before .before .before .before .shared-slice-known2 .given (w .i) .fits) in
     (search needs, p, room-for-one (itemsBefore trace (w .i) ++ valueItem trace (w .i) (w .carried)) (pst trace (w .i)) p (omega (arith, items-with-value trace (w .i) (w .carried))) t)
 
--- src/tally.rt:104:18
+-- src/tally.rt:125:18
 count-items-requires : tie.Need-count-items-requires Inv-loop μ-loop
 count-items-requires c κs = tt
 
--- src/tally.rt:104:9
+-- src/tally.rt:125:9
 add-items : tie.Need-add-items Inv-loop μ-loop
-add-items c = let w = c .before .before .before .before .before .before .before .before .before .before .before .before .before .before .before .loop in
-    let trace = c .before .before .before .before .before .before .before .before .before .before .before .before .before .before .before .before .before .before .before .args .trace .now in
+add-items c = let w = c .before .before .before .before .before .before .before .before .before .before .before .before .before .before .before .before .before .loop in
+    let trace = c .before .before .before .before .before .before .before .before .before .before .before .before .before .before .before .before .before .before .before .before .before .args .trace .now in
     omega (arith, c .count-items .ensures, count-le (w .carried) (pst trace (w .i)), items-before-le trace (w .i), w .inv .2)
 
--- src/tally.rt:105:9
+-- src/tally.rt:126:9
 after-cycle-requires : tie.Need-after-cycle-requires Inv-loop μ-loop
 after-cycle-requires c κs = tt
 
--- src/tally.rt:106:9
+-- src/tally.rt:127:9
 add-i : tie.Need-add-i Inv-loop μ-loop
 add-i c = search needs
 
--- src/tally.rt:99:5
+-- src/tally.rt:108:5
 loop-less : tie.Need-loop-less Inv-loop μ-loop
 loop-less c = search needs
 
--- src/tally.rt:99:5
+-- src/tally.rt:108:5
 loop-again : tie.Need-loop-again Inv-loop μ-loop
-loop-again c = let w = c .before .before .before .before .before .before .before .before .before .before .before .before .before .before .before .before .loop in
-    let a = c .before .before .before .before .before .before .before .before .before .before .before .before .before .before .before .before .before .before .before .before .args in
+loop-again c = let w = c .before .before .before .before .before .before .before .before .before .before .before .before .before .before .before .before .before .before .loop in
+    let a = c .before .before .before .before .before .before .before .before .before .before .before .before .before .before .before .before .before .before .before .before .before .before .args in
     let trace = a .trace .now in
+    let r = sym (c .before .before .before .before .before .before .before .before .before .before .before .before .before .before .before .is-reserved .ensures) ∙ c .before .before .before .before .before .before .before .before .before .before .before .before .before .before .if2 .left in
+    let s = sym (c .before .before .before .before .before .before .before .before .before .before .before .before .before .comes-too-soon .ensures) ∙ c .before .before .before .before .before .before .before .before .before .before .before .before .if3 .left in
     let v = c .before .before .before .before .before .before .note-value .ensures trace (itemsBefore trace (w .i)) (w .inv .3) in
-    let t = c .before .before .note-own .ensures (itemsBefore trace (w .i) ++ valueItem trace (w .i) (w .carried)) v in
-    let e = c .before .before .before .before .before .before .before .before .before .before .before .before .put-entry .ensures ∙ entry-next trace (a .index .now) (w .i) (w .index) (w .items) (w .carried) (w .inv .5) (w .inv .2) (w .inv .1) in (
+    let t = c .before .before .note-own .ensures (itemsBefore trace (w .i) ++ valueItem trace (w .i) (w .carried)) v in (
       search needs,
       c .after-cycle .ensures ∙ carried-next _ (w .i) (w .carried) (w .inv .1),
       rw (c .before .count-items .ensures) (count-next _ (w .i) (w .items) (w .carried) (w .inv .2) (w .inv .1)),
       cycle-noted trace (w .i) (w .carried) (w .inv .1) t,
-      length-stored (a .index .now) (firstEntries trace (entryCount (w .i + 1))) 0 e,
-      e,
+      c .before .before .before .before .before .before .before .before .before .before .put-entry .ensures ∙ entry-next trace (a .entries .now) (w .i) (w .entries) (w .items) (w .carried) (w .inv .4) (w .inv .2) (w .inv .1),
+      rw (c .after-cycle .ensures) (sym (earliest-passes _ (w .i) _ _ (search needs) r s) ∙ w .inv .5),
     )
 
--- src/tally.rt:86:1
-same-length : tie.Need-same-length Inv-loop μ-loop
-same-length c = c .before .loop .inv .4
-
--- src/tally.rt:86:1
-returns : tie.Need-returns Inv-loop μ-loop
+-- src/tally.rt:130:9
+returns-4 : tie.Need-returns-4 Inv-loop μ-loop
 unfolding items indexWords
-returns c = let w = c .before .loop in
-    let e : w .i ≡ length (c .before .before .before .before .before .args .trace .now) = omega arith in
-    (rw e at (w .inv .3), rw e at (w .inv .5))
+returns-4 c = let w = c .before .before .before .loop in
+    let trace = c .before .before .before .before .before .before .before .args .trace .now in
+    let e : w .i ≡ length trace = omega arith in (
+      ap counted (rw e at (w .inv .2)) ∙ rw (eq-eqb _ _ (c .if4 .taken)) at (sym (earliest-ends trace (w .i) (w .carried) (counted (length (items trace))) (omega arith))) ∙ w .inv .5,
+      (rw e at (w .inv .3), rw e at (w .inv .4)),
+    )
+
+-- src/tally.rt:89:1
+returns-5 : tie.Need-returns-5 Inv-loop μ-loop
+returns-5 c = let w = c .before .before .before .loop in
+    let trace = c .before .before .before .before .before .before .before .args .trace .now in
+    (rw (ne-eqb _ _ (c .if4 .left)) at (sym (earliest-ends trace (w .i) (w .carried) (counted (length (items trace))) (omega arith))) ∙ w .inv .5, tt)
 
 pub tally-trace-spec : {M : Type 1} → statement M
 tally-trace-spec =
@@ -124,9 +160,14 @@ tally-trace-spec =
     (tie.spec
     Inv-loop
     μ-loop
+    returns
     nothing-carried-requires
     loop-holds
     shared-slice-read-pst
+    is-reserved-requires
+    returns-2
+    comes-too-soon-requires
+    returns-3
     put-entry-requires
     note-value-requires
     note-own-requires
@@ -136,5 +177,5 @@ tally-trace-spec =
     add-i
     loop-less
     loop-again
-    same-length
-    returns)
+    returns-4
+    returns-5)
