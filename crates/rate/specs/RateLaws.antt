@@ -5,14 +5,17 @@ use mathlib.Core.Bool.{Bool, true, false, cond}
 use native.Mathlib.Nat.{div-add-mod, mod-lt, mul-suc, mul-one, zero-mul, mul-comm, mul-assoc, mul-pos}
 use native.Mathlib.Numerals.{add-one}
 use native.Mathlib.Omega.{arith}
-use lib.Dec.{ltb}
+use lib.Dec.{T, ltb}
 use borrow.Author.Tests.{ne-eqb}
 use lib.IntN.{pos}
-use lib.Ieee.{Float, nan, inf, fin, Format, binary64, prec, emax, low, size, nearest, odd, units, round, ofInt, div, ne, isNan, up, down, toBits}
+use lib.Ieee.{Float, nan, inf, fin, Format, binary64, prec, emax, low, size, nearest, odd, units, round, ofInt, div, ne, isNan, up, down, ofBits, toBits}
 use lib.Ieee.Exact.{HasValue}
 use lib.Ieee.Back.{round-whole}
-use lib.Ieee.Fits.{core, round-is, up-pos, down-pos}
+use lib.Ieee.Fits.{core, round-is, round-fits, up-pos, down-pos}
 use lib.Ieee.Scale.{round-same}
+use lib.Ieee.Bits.{ofBits-toBits}
+use lib.Ieee.Order.{round-mono}
+use lib.Ieee.Positive.{above, above-of-le}
 use lib.Ieee.Compare.{differs-from-itself, nan-differs}
 use Rattle.rate.specs.Rate.{quotient, hundredths}
 
@@ -80,6 +83,20 @@ rounded-number a b =
 -- so its bits are its own
 pub rate-is-a-number : (cycles starts : ℕ) → cycles ≤ 65536 → starts ≤ 65536 → 0 < starts → isNan (quotient cycles starts) ≡ false
 rate-is-a-number cycles starts h k p = rw (rounded-once cycles starts h k p) (rounded-number cycles starts)
+
+-- a rate of one or more has a bit set: 0 can stand for none
+pub rate-bits-not-zero : (cycles starts : ℕ) → cycles ≤ 65536 → starts ≤ cycles → 0 < starts → toBits binary64 (quotient cycles starts) ≡ 0 → ⊥
+unfolding ofBits round
+rate-bits-not-zero cycles starts h k p e = rw is-zero at above-zero
+  where
+    z : Float
+    z = round binary64 false cycles starts
+
+    is-zero : z ≡ ofBits binary64 0
+    is-zero = sym (ofBits-toBits binary64 z (round-fits binary64 false cycles starts)) ∙ ap (ofBits binary64) (rw (rounded-once cycles starts h (omega arith) p) at e)
+
+    above-zero : T (above z)
+    above-zero = above-of-le (round binary64 false 1 1) z tt (round-mono binary64 1 1 cycles starts (omega arith) p (omega arith))
 
 -- "half rounded up": from half a hundredth below the fraction on, to half a hundredth above it
 pub half-up : (cycles starts : ℕ) → 0 < starts

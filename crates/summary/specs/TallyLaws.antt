@@ -94,6 +94,16 @@ no-first (x ∷ xs) code e = by-code (eqb (x .code) code) e (no-first xs code)
     by-code true e none = absurd (omega (arith, e))
     by-code false e none = none (omega (arith, e))
 
+-- and no last
+pub no-last : (xs : List Item) (code : ℕ) → countOf xs code ≡ 0 → lastOf xs code ≡ 0
+unfolding countOf lastOf
+no-last [] code e = refl
+no-last (x ∷ xs) code e = by-code (eqb (x .code) code) e
+  where
+    by-code : (b : Bool) → one b + countOf xs code ≡ 0 → cond (eqb (countOf xs code) 0) (cond b (x .cycle) 0) (lastOf xs code) ≡ 0
+    by-code true e = absurd (omega (arith, e))
+    by-code false e = rw (eq-eqb (countOf xs code) 0 (omega (arith, e)))
+
 first-or-none : (xs : List Item) (code : ℕ) (b : Bool) → eqb (countOf xs code) 0 ≡ b → cond b 0 (firstOf xs code) ≡ firstOf xs code
 first-or-none xs code true e = sym (no-first xs code (eqb-true (countOf xs code) 0 e))
 first-or-none xs code false e = refl
