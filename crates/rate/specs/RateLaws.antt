@@ -53,7 +53,8 @@ divided (fin s m e) (fin t n d) a b h k p =
     some z = omega (arith, mul-pos p (down-pos d), rw (z, zero-mul (up d)) at bottom)
 
     crossed : m * up e * down d * b ≡ a * (n * up d * down e)
-    crossed = rw (top, bottom, mul-assoc a (down e) (down d), mul-assoc a (down e * down d) b) (ap (λ (z : ℕ). a * z) (mul-comm (down e * down d) b ∙ ap (λ (z : ℕ). b * z) (mul-comm (down e) (down d)) ∙ sym (mul-assoc b (down d) (down e))))
+    crossed = rw (top, bottom, mul-assoc a (down e) (down d), mul-assoc a (down e * down d) b)
+        (ap (λ (z : ℕ). a * z) (mul-comm (down e * down d) b ∙ ap (λ (z : ℕ). b * z) (mul-comm (down e) (down d)) ∙ sym (mul-assoc b (down d) (down e))))
 
 -- THE LAW: the rate is the double nearest to the fraction of the two counts, rounded once
 pub rounded-once : (cycles starts : ℕ) → cycles ≤ 65536 → starts ≤ 65536 → 0 < starts → quotient cycles starts ≡ round binary64 false cycles starts
@@ -93,7 +94,8 @@ rate-bits-not-zero cycles starts h k p e = rw is-zero at above-zero
     z = round binary64 false cycles starts
 
     is-zero : z ≡ ofBits binary64 0
-    is-zero = sym (ofBits-toBits binary64 z (round-fits binary64 false cycles starts)) ∙ ap (ofBits binary64) (rw (rounded-once cycles starts h (omega arith) p) at e)
+    is-zero = sym (ofBits-toBits binary64 z (round-fits binary64 false cycles starts))
+        ∙ ap (ofBits binary64) (rw (rounded-once cycles starts h (omega arith) p) at e)
 
     above-zero : T (above z)
     above-zero = above-of-le (round binary64 false 1 1) z tt (round-mono binary64 1 1 cycles starts (omega arith) p (omega arith))
@@ -101,7 +103,8 @@ rate-bits-not-zero cycles starts h k p e = rw is-zero at above-zero
 -- "half rounded up": from half a hundredth below the fraction on, to half a hundredth above it
 pub half-up : (cycles starts : ℕ) → 0 < starts
     → (starts * 2 * hundredths cycles starts ≤ cycles * 200 + starts) × (cycles * 200 + starts < starts * 2 * (hundredths cycles starts + 1))
-half-up cycles starts p = rw (ne-eqb starts 0 (λ e. omega (arith, e))) (omega (arith, div-add-mod n d), rw (add-one (n / d), mul-suc d (n / d)) (omega (arith, div-add-mod n d, mod-lt n {m = d} (omega arith))))
+half-up cycles starts p = rw (ne-eqb starts 0 (λ e. omega (arith, e)))
+    (omega (arith, div-add-mod n d), rw (add-one (n / d), mul-suc d (n / d)) (omega (arith, div-add-mod n d, mod-lt n {m = d} (omega arith))))
   where
     n : ℕ
     n = cycles * 200 + starts

@@ -16,7 +16,8 @@ use Rattle.summary.specs.TallyLaws.{of-code, count-le-length}
 
 -- a cycle's value, then its own item: the items of one cycle more
 pub cycle-noted : (trace : List ℕ) (i : ℕ) (c : Carried) {counts firsts lasts : List ℕ} → c ≡ carriedInto trace i
-    → Tallied ((itemsBefore trace i ++ valueItem trace i c) ++ ownItem i (c .run) (pst trace i)) counts firsts lasts → Tallied (itemsBefore trace (i + 1)) counts firsts lasts
+    → Tallied ((itemsBefore trace i ++ valueItem trace i c) ++ ownItem i (c .run) (pst trace i)) counts firsts lasts
+    → Tallied (itemsBefore trace (i + 1)) counts firsts lasts
 unfolding itemsAt
 cycle-noted trace i c e t = rw (items-more trace i c e, ← append-assoc (itemsBefore trace i) (valueItem trace i c) (ownItem i (c .run) (pst trace i))) t
 
@@ -32,5 +33,6 @@ items-with-value trace i c =
     omega (arith, length-append (itemsBefore trace i) (valueItem trace i c), items-before-le trace i, value-at-most-one trace i c)
 
 -- a tally of so few items has room for one more
-pub room-for-one : (xs : List Item) {counts firsts lasts : List ℕ} (code : ℕ) → code < 16 → length xs ≤ 131072 → Tallied xs counts firsts lasts → getD counts code 0 < 4294967295
+pub room-for-one : (xs : List Item) {counts firsts lasts : List ℕ} (code : ℕ) → code < 16 → length xs ≤ 131072 → Tallied xs counts firsts lasts
+    → getD counts code 0 < 4294967295
 room-for-one xs code h k t = rw (t .count, of-code (countOf xs) code h) (omega (arith, count-le-length xs code))

@@ -30,7 +30,8 @@ module _ (trace before : List ℕ) (i : ℕ) where
   entry-not-due : (i % 256 ≡ 0 → ⊥) → entryCount (i + 1) ≡ entryCount i
   entry-not-due e = omega (arith, e)
 
-  entry-put : i % 256 ≡ 0 → set (sets before 0 (firstEntries trace (entryCount i))) (i / 256) (entryWord (entryAt trace i)) ≡ sets before 0 (firstEntries trace (entryCount (i + 1)))
+  entry-put : i % 256 ≡ 0 → set (sets before 0 (firstEntries trace (entryCount i))) (i / 256) (entryWord (entryAt trace i))
+      ≡ sets before 0 (firstEntries trace (entryCount (i + 1)))
   unfolding firstEntries
   entry-put e =
       rw (entry-due e .0, entry-due e .1)
@@ -43,13 +44,15 @@ module _ (trace before : List ℕ) (i : ℕ) where
   -- a cycle's word put, or not, where the words of the cycles before it stand
   pub entry-next : (index : List ℕ) (items : ℕ) (c : Carried) → index ≡ sets before 0 (firstEntries trace (entryCount i))
       → items ≡ length (itemsBefore trace i) → c ≡ carriedInto trace i
-      → cond (eqb (i % 256) 0) (set index (i / 256) (entryWord (record { cycle = i; items = items; carried = c }))) index ≡ sets before 0 (firstEntries trace (entryCount (i + 1)))
+      → cond (eqb (i % 256) 0) (set index (i / 256) (entryWord (record { cycle = i; items = items; carried = c }))) index
+      ≡ sets before 0 (firstEntries trace (entryCount (i + 1)))
   entry-next index items c e f g = rw (e, f, g) (by-place (eqb (i % 256) 0) refl)
     where
       E : List ℕ
       E = sets before 0 (firstEntries trace (entryCount i))
 
-      by-place : (b : Bool) → eqb (i % 256) 0 ≡ b → cond b (set E (i / 256) (entryWord (entryAt trace i))) E ≡ sets before 0 (firstEntries trace (entryCount (i + 1)))
+      by-place : (b : Bool) → eqb (i % 256) 0 ≡ b
+          → cond b (set E (i / 256) (entryWord (entryAt trace i))) E ≡ sets before 0 (firstEntries trace (entryCount (i + 1)))
       by-place true t = entry-put (eqb-true (i % 256) 0 t)
       by-place false t = rw (entry-not-due (eqb-false (i % 256) 0 t))
 
@@ -65,7 +68,8 @@ entry-stands trace (suc n) k h = by-place (eqb k n) refl (entry-stands trace n k
     w : ℕ
     w = entryWord (entryAt trace (256 * n))
 
-    by-place : (b : Bool) → eqb k n ≡ b → (k < n → getD E k 0 ≡ entryWord (entryAt trace (256 * k))) → getD (E ++ (w ∷ [])) k 0 ≡ entryWord (entryAt trace (256 * k))
+    by-place : (b : Bool) → eqb k n ≡ b → (k < n → getD E k 0 ≡ entryWord (entryAt trace (256 * k)))
+        → getD (E ++ (w ∷ [])) k 0 ≡ entryWord (entryAt trace (256 * k))
     by-place true e on = rw (eqb-true k n e) (getD-at E w [] 0 n (length-entries trace n))
     by-place false e on =
         List·getD-append E (w ∷ []) 0 k (omega (arith, eqb-false k n e, length-entries trace n)) ∙ on (omega (arith, eqb-false k n e))
@@ -75,5 +79,6 @@ unfolding indexWords
 index-entry trace k h = entry-stands trace (entryCount (length trace)) k (omega arith)
 
 -- THE LAW: what is read from a word of the index is what the cycles before its own carry
-pub index-read-back : (trace : List ℕ) → ((i : ℕ) → getD trace i 0 < 256) → (k : ℕ) → 256 * k < length trace → ofWord (256 * k) (getD (indexWords trace) k 0) ≡ entryAt trace (256 * k)
+pub index-read-back : (trace : List ℕ) → ((i : ℕ) → getD trace i 0 < 256) → (k : ℕ) → 256 * k < length trace
+    → ofWord (256 * k) (getD (indexWords trace) k 0) ≡ entryAt trace (256 * k)
 index-read-back trace bytes k h = ap (ofWord (256 * k)) (index-entry trace k h) ∙ entry-read-back trace bytes (256 * k)

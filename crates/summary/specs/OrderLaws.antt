@@ -68,7 +68,8 @@ unfolding itemsAt
 ascending-at trace i c p =
     ascending-append (valueItem trace i c) (ownItem i (c .run) p) (ascending-one (eqb (c .due) 1) (ofValue trace i (c .marker)))
     (ascending-one (givesOwn (c .run) p) (ofCycle i p))
-    (λ x y m n. same-cycle (x .cycle) (y .cycle) i (only-of i (eqb (c .due) 1) (ofValue trace i (c .marker)) x refl m) (only-of i (givesOwn (c .run) p) (ofCycle i p) y refl n))
+    (λ x y m n. same-cycle (x .cycle) (y .cycle) i (only-of i (eqb (c .due) 1) (ofValue trace i (c .marker)) x refl m)
+    (only-of i (givesOwn (c .run) p) (ofCycle i p) y refl n))
 
 -- the items before a cycle are of cycles before it
 pub of-earlier-cycles : (trace : List ℕ) (i : ℕ) (x : Item) → Among x (itemsBefore trace i) → x .cycle < i
@@ -77,7 +78,8 @@ of-earlier-cycles trace zero x a = absurd a
 of-earlier-cycles trace (suc i) x a =
     by-part (among-either x (itemsBefore trace i) (itemsAt trace i (carriedInto trace i) (pst trace i)) a) (of-earlier-cycles trace i x)
   where
-    by-part : Among x (itemsBefore trace i) ⊎ Among x (itemsAt trace i (carriedInto trace i) (pst trace i)) → (Among x (itemsBefore trace i) → x .cycle < i) → x .cycle < suc i
+    by-part : Among x (itemsBefore trace i) ⊎ Among x (itemsAt trace i (carriedInto trace i) (pst trace i))
+        → (Among x (itemsBefore trace i) → x .cycle < i) → x .cycle < suc i
     by-part (inl m) earlier = omega (arith, earlier m)
     by-part (inr m) earlier = omega (arith, of-its-cycle trace i (carriedInto trace i) (pst trace i) x m)
 
@@ -122,7 +124,8 @@ unfolding countOf lastOf
 last-occurs [] code h = absurd (omega arith)
 last-occurs (x ∷ xs) code h = by-rest (eqb (countOf xs code) 0) (eqb (x .code) code) refl refl h (last-occurs xs code)
   where
-    by-rest : (n b : Bool) → eqb (countOf xs code) 0 ≡ n → eqb (x .code) code ≡ b → 0 < one b + countOf xs code → (0 < countOf xs code → Occurs xs code (lastOf xs code))
+    by-rest : (n b : Bool) → eqb (countOf xs code) 0 ≡ n → eqb (x .code) code ≡ b → 0 < one b + countOf xs code
+        → (0 < countOf xs code → Occurs xs code (lastOf xs code))
         → Occurs (x ∷ xs) code (cond n (cond b (x .cycle) 0) (lastOf xs code))
     by-rest true true z e h on = record { item = x; among = inl refl; of-code = eqb-true (x .code) code e; at-cycle = refl }
     by-rest true false z e h on = absurd (omega (arith, h, eqb-true (countOf xs code) 0 z))
@@ -133,7 +136,8 @@ unfolding firstOf
 least [] code s x a e = absurd a
 least (y ∷ ys) code s x a e = by-code (eqb (y .code) code) refl a (λ m. least ys code (s .1) x m e)
   where
-    by-code : (b : Bool) → eqb (y .code) code ≡ b → (x ≡ y) ⊎ Among x ys → (Among x ys → firstOf ys code ≤ x .cycle) → cond b (y .cycle) (firstOf ys code) ≤ x .cycle
+    by-code : (b : Bool) → eqb (y .code) code ≡ b → (x ≡ y) ⊎ Among x ys → (Among x ys → firstOf ys code ≤ x .cycle)
+        → cond b (y .cycle) (firstOf ys code) ≤ x .cycle
     by-code true t (inl f) on = omega (arith, ap (λ (z : Item). z .cycle) f)
     by-code true t (inr m) on = s .0 x m
     by-code false t (inl f) on = absurd (eqb-false (y .code) code t (sym (ap (λ (z : Item). z .code) f) ∙ e))

@@ -57,21 +57,26 @@ module _ (trace before : List ℕ) (r : Page) where
     unfolding summary indexShort
     page-short h p =
         meets
-        (rw p (sym (read-whatever trace n e .1 (indexShort trace (length before) (counted (length (items trace)))) ∙ rw (lt-ltb (length before) (entryCount (length trace)) h) refl)))
+        (rw p (sym (read-whatever trace n e .1 (indexShort trace (length before) (counted (length (items trace))))
+        ∙ rw (lt-ltb (length before) (entryCount (length trace)) h) refl)))
         (rw p refl)
         (rw p refl)
 
     -- one that is read
-    pub page-read : (entries : List ℕ) {after : List ℕ} → entryCount (length trace) ≤ length before → entryCount (length trace) ≤ length entries → r ≡ pageOf trace n
+    pub page-read : (entries : List ℕ) {after : List ℕ} → entryCount (length trace) ≤ length before → entryCount (length trace) ≤ length entries
+        → r ≡ pageOf trace n
         → after ≡ paste before 0 (sets entries 0 (indexWords trace)) (entryCount (length trace)) → PageMeets trace before r after
     unfolding summary indexShort
     page-read entries h k p w =
         meets
-        (rw p (ap counted (read-whatever trace n e .0) ∙ sym (read-whatever trace n e .1 (indexShort trace (length before) (counted (length (items trace)))) ∙ rw (le-ltb (length before) (entryCount (length trace)) h) refl)))
+        (rw p (ap counted (read-whatever trace n e .0)
+        ∙ sym (read-whatever trace n e .1 (indexShort trace (length before) (counted (length (items trace))))
+        ∙ rw (le-ltb (length before) (entryCount (length trace)) h) refl)))
         (rw p refl)
         (rw p (w ∙ index-copied trace before entries k))
 
 -- no second page fits, and no second buffer
-pub page-one : {trace before after after′ : List ℕ} {r r′ : Page} → PageMeets trace before r after → PageMeets trace before r′ after′ → (r ≡ r′) × (after ≡ after′)
+pub page-one : {trace before after after′ : List ℕ} {r r′ : Page} → PageMeets trace before r after → PageMeets trace before r′ after′ → (r ≡ r′)
+    × (after ≡ after′)
 page-one {trace} {r = r} {r′ = r′} m m′ =
     (m .page ∙ ap (pageBy trace) (told-one (r .judged) (r′ .judged) (m .answer ∙ sym (m′ .answer))) ∙ sym (m′ .page), m .words ∙ sym (m′ .words))

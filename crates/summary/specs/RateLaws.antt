@@ -27,7 +27,13 @@ at-most-one true = omega arith
 at-most-one false = omega arith
 
 marker-no-start : (p : ℕ) → marker p ≡ true → start p ≡ false
-marker-no-start p e = rw (ne-eqb p 1 (λ f. omega (arith, f, eight)), ne-eqb p 4 (λ f. omega (arith, f, eight)), ne-eqb p 5 (λ f. omega (arith, f, eight)), ne-eqb p 7 (λ f. omega (arith, f, eight)))
+marker-no-start p e = rw (
+  ne-eqb p 1 (λ f. omega (arith, f, eight)),
+  ne-eqb p 4 (λ f. omega (arith, f, eight)),
+  ne-eqb p 5
+      (λ f. omega (arith, f, eight)),
+  ne-eqb p 7 (λ f. omega (arith, f, eight)),
+)
   where
     by-eight : (b : Bool) → ltb p 8 ≡ b → cond b false (ltb p 12) ≡ true → 8 ≤ p
     by-eight true t u = absurd (true≢false (sym u))

@@ -25,7 +25,13 @@ start-is-one (suc (suc (suc (suc (suc (suc (suc zero))))))) = refl
 start-is-one (suc (suc (suc (suc (suc (suc (suc (suc code)))))))) = beyond (suc (suc (suc (suc (suc (suc (suc (suc code)))))))) (omega arith)
   where
     beyond : (p : ℕ) → 8 ≤ p → one (start p) ≡ one (eqb p 1) + one (eqb p 4) + one (eqb p 5) + one (eqb p 7)
-    beyond p h = rw (ne-eqb p 1 (λ e. omega (arith, e)), ne-eqb p 4 (λ e. omega (arith, e)), ne-eqb p 5 (λ e. omega (arith, e)), ne-eqb p 7 (λ e. omega (arith, e)))
+    beyond p h = rw (
+      ne-eqb p 1 (λ e. omega (arith, e)),
+      ne-eqb p 4 (λ e. omega (arith, e)),
+      ne-eqb p 5 (λ e. omega (arith, e)),
+      ne-eqb p 7
+          (λ e. omega (arith, e)),
+    )
 
 -- "instruction starts (codes 1, 4, 5, 7)" are the items of these four codes
 pub starts-are-four : (xs : List Item) → startsOf xs ≡ countOf xs 1 + countOf xs 4 + countOf xs 5 + countOf xs 7
@@ -38,11 +44,24 @@ pub starts-tallied : {xs : List Item} {counts firsts lasts : List ℕ} → Talli
     → getD counts 1 0 + getD counts 4 0 + getD counts 5 0 + getD counts 7 0 ≡ startsOf xs
 starts-tallied {xs} t =
     rw (t .count, starts-are-four xs)
-    (omega (arith, of-code (countOf xs) 1 (omega arith), of-code (countOf xs) 4 (omega arith), of-code (countOf xs) 5 (omega arith), of-code (countOf xs) 7 (omega arith)))
+    (omega (
+      arith,
+      of-code (countOf xs) 1 (omega arith),
+      of-code (countOf xs) 4 (omega arith),
+      of-code (countOf xs) 5 (omega arith),
+      of-code (countOf xs) 7
+          (omega arith),
+    ))
 
 -- no count of a trace is large
-pub count-small : (trace : List ℕ) {counts firsts lasts : List ℕ} (code : ℕ) → code < 16 → length trace ≤ 65536 → Tallied (items trace) counts firsts lasts
+count-small : (trace : List ℕ) {counts firsts lasts : List ℕ} (code : ℕ) → code < 16 → length trace ≤ 65536 → Tallied (items trace) counts firsts lasts
     → getD counts code 0 ≤ 131072
 unfolding items
 count-small trace code h k t =
     rw (t .count, of-code (countOf (items trace)) code h) (omega (arith, count-le-length (items trace) code, items-before-le trace (length trace)))
+
+-- nor are the four of the starts
+pub four-small : (trace : List ℕ) {counts firsts lasts : List ℕ} → length trace ≤ 65536 → Tallied (items trace) counts firsts lasts
+    → (getD counts 1 0 ≤ 131072) × (getD counts 4 0 ≤ 131072) × (getD counts 5 0 ≤ 131072) × (getD counts 7 0 ≤ 131072)
+four-small trace k t =
+    (count-small trace 1 (omega arith) k t, count-small trace 4 (omega arith) k t, count-small trace 5 (omega arith) k t, count-small trace 7 (omega arith) k t)

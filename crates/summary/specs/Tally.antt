@@ -52,4 +52,5 @@ Notes xs counts firsts lasts counts′ firsts′ lasts′ = (before : List Item)
 
 -- noting a value's item: whatever the value is
 abbrev pub NotesValue : ℕ → Carried → List ℕ → List ℕ → List ℕ → List ℕ → List ℕ → List ℕ → Type 0
-NotesValue i carried counts firsts lasts counts′ firsts′ lasts′ = (trace : List ℕ) → Notes (valueItem trace i carried) counts firsts lasts counts′ firsts′ lasts′
+NotesValue i carried counts firsts lasts counts′ firsts′ lasts′ = (trace : List ℕ)
+    → Notes (valueItem trace i carried) counts firsts lasts counts′ firsts′ lasts′

@@ -115,9 +115,14 @@ pub noted : (xs : List Item) (x : Item) (counts firsts lasts : List ℕ) → x .
     (set lasts (x .code) (x .cycle))
 noted xs x counts firsts lasts h t =
     record {
-      count = rw (t .count, of-code (countOf xs) k h) (ap (set (perCode (countOf xs)) k) (sym (count-snoc xs x k ∙ one-more)) ∙ row-set (countOf xs) (countOf ys) k h (λ other d. count-snoc xs x other ∙ none-more other d));
-      first = rw (t .count, t .first, of-code (countOf xs) k h, of-code (firstOf xs) k h) (ap (set (perCode (firstOf xs)) k) (sym (first-snoc xs x k ∙ its-first)) ∙ row-set (firstOf xs) (firstOf ys) k h (λ other d. first-snoc xs x other ∙ same-first other d));
-      last = rw (t .last) (ap (set (perCode (lastOf xs)) k) (sym (last-snoc xs x k ∙ its-last)) ∙ row-set (lastOf xs) (lastOf ys) k h (λ other d. last-snoc xs x other ∙ same-last other d));
+      count = rw (t .count, of-code (countOf xs) k h)
+          (ap (set (perCode (countOf xs)) k) (sym (count-snoc xs x k ∙ one-more))
+          ∙ row-set (countOf xs) (countOf ys) k h (λ other d. count-snoc xs x other ∙ none-more other d));
+      first = rw (t .count, t .first, of-code (countOf xs) k h, of-code (firstOf xs) k h)
+          (ap (set (perCode (firstOf xs)) k) (sym (first-snoc xs x k ∙ its-first))
+          ∙ row-set (firstOf xs) (firstOf ys) k h (λ other d. first-snoc xs x other ∙ same-first other d));
+      last = rw (t .last) (ap (set (perCode (lastOf xs)) k) (sym (last-snoc xs x k ∙ its-last))
+          ∙ row-set (lastOf xs) (lastOf ys) k h (λ other d. last-snoc xs x other ∙ same-last other d));
     }
   where
     k : ℕ
@@ -162,7 +167,8 @@ count-le-length (x ∷ xs) code = by-code (eqb (x .code) code) (count-le-length 
 
 -- what the three stores of an item's numbers come to
 pub note-one : (x : Item) {counts firsts lasts counts′ firsts′ lasts′ : List ℕ} → x .code < 16
-    → (counts′ ≡ set counts (x .code) (getD counts (x .code) 0 + 1)) × (firsts′ ≡ set firsts (x .code) (cond (eqb (getD counts (x .code) 0) 0) (x .cycle) (getD firsts (x .code) 0))) × (lasts′ ≡ set lasts (x .code) (x .cycle))
+    → (counts′ ≡ set counts (x .code) (getD counts (x .code) 0 + 1))
+    × (firsts′ ≡ set firsts (x .code) (cond (eqb (getD counts (x .code) 0) 0) (x .cycle) (getD firsts (x .code) 0))) × (lasts′ ≡ set lasts (x .code) (x .cycle))
     → Notes (x ∷ []) counts firsts lasts counts′ firsts′ lasts′
 note-one x {counts} {firsts} {lasts} h e before t = rw (e .0, e .1, e .2) (noted before x counts firsts lasts h t)
 

@@ -31,7 +31,10 @@ fn note_item(
     cycle: u32,
 )
     requires { ⌜ (code < 16) × (getD (now counts) code 0 < 4294967295) ⌝ }
-    ensures { λ _. ⌜ (now (counts .exit) ≡ set (now (counts .entry)) code (getD (now (counts .entry)) code 0 + 1)) × (now (firsts .exit) ≡ set (now (firsts .entry)) code (cond (eqb (getD (now (counts .entry)) code 0) 0) cycle (getD (now (firsts .entry)) code 0))) × (now (lasts .exit) ≡ set (now (lasts .entry)) code cycle) ⌝ }
+    ensures { λ _. ⌜ (now (counts .exit) ≡ set (now (counts .entry)) code (getD (now (counts .entry)) code 0 + 1))
+        × (now (firsts .exit) ≡ set (now (firsts .entry)) code
+        (cond (eqb (getD (now (counts .entry)) code 0) 0) cycle (getD (now (firsts .entry)) code 0)))
+        × (now (lasts .exit) ≡ set (now (lasts .entry)) code cycle) ⌝ }
 {
     firsts[code] = first_cycle(counts[code], firsts[code], cycle);
     lasts[code] = cycle;
@@ -47,7 +50,8 @@ fn note_value(
     carried: Carried,
 )
     requires { ⌜ (i < 65536) × (carried .marker < 16) × (getD (now counts) (carried .marker) 0 < 4294967295) ⌝ }
-    ensures { λ _. ⌜ NotesValue i carried (now (counts .entry)) (now (firsts .entry)) (now (lasts .entry)) (now (counts .exit)) (now (firsts .exit)) (now (lasts .exit)) ⌝ }
+    ensures { λ _. ⌜ NotesValue i carried (now (counts .entry)) (now (firsts .entry)) (now (lasts .entry)) (now (counts .exit)) (now (firsts .exit))
+        (now (lasts .exit)) ⌝ }
 {
     if carried.due == 1 {
         note_item(counts, firsts, lasts, carried.marker as usize, i as u32);
@@ -64,7 +68,8 @@ fn note_own(
     pst: u8,
 )
     requires { ⌜ (i < 65536) × (pst < 16) × (getD (now counts) pst 0 < 4294967295) ⌝ }
-    ensures { λ _. ⌜ Notes (ownItem i run pst) (now (counts .entry)) (now (firsts .entry)) (now (lasts .entry)) (now (counts .exit)) (now (firsts .exit)) (now (lasts .exit)) ⌝ }
+    ensures { λ _. ⌜ Notes (ownItem i run pst) (now (counts .entry)) (now (firsts .entry)) (now (lasts .entry)) (now (counts .exit)) (now (firsts .exit))
+        (now (lasts .exit)) ⌝ }
 {
     if cycle::gives_own(run, pst) {
         note_item(counts, firsts, lasts, pst as usize, i as u32);
@@ -74,7 +79,8 @@ fn note_own(
 // The entry of every 256th cycle, one word each.
 fn put_entry(entries: &mut [u32; 256], i: usize, items: usize, carried: Carried)
     requires { ⌜ (i < 65536) × (items ≤ 131072) ⌝ }
-    ensures { λ _. ⌜ now (entries .exit) ≡ cond (eqb (i % 256) 0) (set (now (entries .entry)) (i / 256) (entryWord (record { cycle = i; items = items; carried = carried }))) (now (entries .entry)) ⌝ }
+    ensures { λ _. ⌜ now (entries .exit) ≡ cond (eqb (i % 256) 0)
+        (set (now (entries .entry)) (i / 256) (entryWord (record { cycle = i; items = items; carried = carried }))) (now (entries .entry)) ⌝ }
 {
     if i % 256 == 0 {
         entries[i / 256] = (items as u32) * 4096
@@ -94,7 +100,8 @@ pub fn tally_trace(
     entries: &mut [u32; 256],
 ) -> Listing
     requires { ⌜ Tallied [] (now counts) (now firsts) (now lasts) ⌝ }
-    ensures { λ r. ⌜ (told r ≡ reading (now (trace .entry))) × ReadTallied (now (trace .entry)) (now (entries .entry)) r (now (counts .exit)) (now (firsts .exit)) (now (lasts .exit)) (now (entries .exit)) ⌝ }
+    ensures { λ r. ⌜ (told r ≡ reading (now (trace .entry)))
+        × ReadTallied (now (trace .entry)) (now (entries .entry)) r (now (counts .exit)) (now (firsts .exit)) (now (lasts .exit)) (now (entries .exit)) ⌝ }
 {
     if 65536 < trace.len() {
         return Listing::Refused {

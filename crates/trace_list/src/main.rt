@@ -87,20 +87,26 @@ fn list_from(trace: &[u8], from: usize, words: &mut [u32], text: &mut [u8]) {
 }
 
 // A buffer of four words a cycle is never too short.
-fn list_input(asked: Asked, text: &mut [u8]) {
+fn list_whole(text: &mut [u8]) {
     let mut trace = [0u8; 65537];
     let mut words = [0u32; 262144];
+    let cycles = io::read_full(STDIN_FILENO, &mut trace);
+    let listed = listing::list_trace(&trace[..cycles], &mut words);
+    write_listing(listed, cycles, &words, text);
+}
+
+fn list_rest(from: usize, text: &mut [u8]) {
+    let mut trace = [0u8; 65537];
+    let mut words = [0u32; 262144];
+    let cycles = io::read_full(STDIN_FILENO, &mut trace);
+    list_from(&trace[..cycles], from, &mut words, text);
+}
+
+fn answer(asked: Asked, text: &mut [u8]) {
     match asked {
         Asked::Unclear => say_unclear(text),
-        Asked::Whole => {
-            let cycles = io::read_full(STDIN_FILENO, &mut trace);
-            let listed = listing::list_trace(&trace[..cycles], &mut words);
-            write_listing(listed, cycles, &words, text);
-        }
-        Asked::From(from) => {
-            let cycles = io::read_full(STDIN_FILENO, &mut trace);
-            list_from(&trace[..cycles], from as usize, &mut words, text);
-        }
+        Asked::Whole => list_whole(text),
+        Asked::From(from) => list_rest(from as usize, text),
     }
 }
 
@@ -120,5 +126,5 @@ fn read_asked() -> Asked {
 
 fn main() {
     let mut text = [0u8; 16384];
-    list_input(read_asked(), &mut text);
+    answer(read_asked(), &mut text);
 }

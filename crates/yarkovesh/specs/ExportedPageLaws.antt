@@ -22,7 +22,8 @@ module _ {trace before after : List ℕ} {page : Page} (given : Numbers) (met : 
       }
 
   pub read-gives-numbers : {n : ℕ} → page .judged ≡ Items n
-      → PageNumbersMeet trace before (listingNumber (told (page .judged))) after given (rows (page .counts) (page .firsts) (page .lasts) (page .starts) (rateBits (page .rate)))
+      → PageNumbersMeet trace before (listingNumber (told (page .judged))) after given
+      (rows (page .counts) (page .firsts) (page .lasts) (page .starts) (rateBits (page .rate)))
   read-gives-numbers e =
       record {
         answer = ap listingNumber (met .answer);

@@ -83,7 +83,9 @@ pub extern "C" fn yarkovesh_page(
     rate: &mut u64,
     index: &mut [u32],
 ) -> u64
-    ensures { λ r. ⌜ PageNumbersMeet (now (trace .entry)) (now (index .entry)) r (now (index .exit)) (rows (now (counts .entry)) (now (firsts .entry)) (now (lasts .entry)) (now (starts .entry)) (now (rate .entry))) (rows (now (counts .exit)) (now (firsts .exit)) (now (lasts .exit)) (now (starts .exit)) (now (rate .exit))) ⌝ }
+    ensures { λ r. ⌜ PageNumbersMeet (now (trace .entry)) (now (index .entry)) r (now (index .exit))
+        (rows (now (counts .entry)) (now (firsts .entry)) (now (lasts .entry)) (now (starts .entry)) (now (rate .entry)))
+        (rows (now (counts .exit)) (now (firsts .exit)) (now (lasts .exit)) (now (starts .exit)) (now (rate .exit))) ⌝ }
 {
     let page = page::make_page(trace, index);
     let judged = page.judged;

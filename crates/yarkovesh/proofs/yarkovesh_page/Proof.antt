@@ -38,7 +38,8 @@ same-length c = search needs
 
 -- src/lib.rt:76:1
 returns : tie.Need-returns
-returns c = rw (c .listing-number .ensures) (refused-keeps-numbers _ (c .before .before .before .before .before .make-page .ensures) (c .before .enum-told .given .1))
+returns c = rw (c .listing-number .ensures)
+    (refused-keeps-numbers _ (c .before .before .before .before .before .make-page .ensures) (c .before .enum-told .given .1))
 
 -- src/lib.rt:76:1
 same-length-2 : tie.Need-same-length-2
@@ -46,7 +47,9 @@ same-length-2 c = search needs
 
 -- src/lib.rt:76:1
 returns-2 : tie.Need-returns-2
-returns-2 c = rw (c .listing-number2 .ensures, c .before .bits-of .ensures) (read-gives-numbers _ (c .before .before .before .before .before .before .before .before .before .make-page .ensures) (c .before .before .before .before .before .enum-told2 .given .1))
+returns-2 c = rw (c .listing-number2 .ensures, c .before .bits-of .ensures)
+    (read-gives-numbers _ (c .before .before .before .before .before .before .before .before .before .make-page .ensures)
+    (c .before .before .before .before .before .enum-told2 .given .1))
 
 pub yarkovesh-page-spec : {M : Type 1} → statement M
 yarkovesh-page-spec =

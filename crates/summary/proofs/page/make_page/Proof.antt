@@ -10,7 +10,7 @@ use Rattle.trace.specs.Listing.{told}
 use Rattle.trace.specs.JudgeLaws.{read-short, reading-whole}
 use Rattle.trace.specs.StoreLaws.{length-stored}
 use Rattle.summary.specs.TallyLaws.{nothing-noted}
-use Rattle.summary.specs.StartLaws.{starts-tallied, count-small}
+use Rattle.summary.specs.StartLaws.{starts-tallied, four-small}
 use Rattle.summary.specs.Index.{entryCount, indexWords}
 use Rattle.summary.specs.PageLaws.{page-refused, page-short, page-read}
 use borrow.Author.Needs.{needs}
@@ -49,22 +49,37 @@ refuse-requires-2 c κs = search needs
 
 -- src/page.rt:65:17
 returns : tie.Need-returns
-returns c = page-short _ _ _ _ (sym (c .before .before .before .before .before .tally-trace .ensures .0) ∙ ap told (c .before .before .before .judged2 .given .1)) (omega arith) (c .refuse2 .ensures)
+returns c = page-short _ _ _ _ (sym (c .before .before .before .before .before .tally-trace .ensures .0)
+    ∙ ap told (c .before .before .before .judged2 .given .1)) (omega arith) (c .refuse2 .ensures)
 
 slice-aggregate-copy-entries : tie.Need-slice-aggregate-copy-entries
-slice-aggregate-copy-entries c = let t = rw (c .before .before .before .before .judged2 .given .1) at (c .before .before .before .before .before .before .tally-trace .ensures .1) in
-    sym (length-stored (replicate 256 0) (indexWords (c .before .before .before .before .before .before .before .before .before .before .before .before .before .args .trace .now)) 0 (t .1) ∙ length-replicate {A = ℕ} 256 0)
+slice-aggregate-copy-entries c = let t = rw (c .before .before .before .before .judged2 .given .1) at
+    (c .before .before .before .before .before .before .tally-trace .ensures .1) in
+    sym (length-stored (replicate 256 0) (indexWords
+    (c .before .before .before .before .before .before .before .before .before .before .before .before .before .args .trace .now)) 0 (t .1)
+    ∙ length-replicate {A = ℕ} 256 0)
 
 -- src/page.rt:67:13
 copy-entries-requires : tie.Need-copy-entries-requires
-copy-entries-requires c κs = let e = sym (c .before .before .before .before .before .before .tally-trace .ensures .0) ∙ ap told (c .before .before .before .before .judged2 .given .1) in
+copy-entries-requires c κs = let e = sym (c .before .before .before .before .before .before .tally-trace .ensures .0)
+    ∙ ap told (c .before .before .before .before .judged2 .given .1) in
     let t = rw (c .before .before .before .before .judged2 .given .1) at (c .before .before .before .before .before .before .tally-trace .ensures .1) in
-    let k = read-short _ 0 nothing _ (reading-whole _ ∙ e) in
-    (search needs, omega (arith, k, length-stored (replicate 256 0) (indexWords (c .before .before .before .before .before .before .before .before .before .before .before .before .before .args .trace .now)) 0 (t .1), length-replicate {A = ℕ} 256 0))
+    let k = read-short _ 0 nothing _ (reading-whole _ ∙ e) in (
+      search needs,
+      omega (
+        arith,
+        k,
+        length-stored (replicate 256 0)
+            (indexWords (c .before .before .before .before .before .before .before .before .before .before .before .before .before .args .trace .now)) 0
+            (t .1),
+        length-replicate {A = ℕ} 256 0,
+      ),
+    )
 
 -- src/page.rt:68:26
 cast-cycles : tie.Need-cast-cycles
-cast-cycles c = let e = sym (c .before .before .before .before .before .before .before .before .before .tally-trace .ensures .0) ∙ ap told (c .before .before .before .before .before .before .before .judged2 .given .1) in
+cast-cycles c = let e = sym (c .before .before .before .before .before .before .before .before .before .tally-trace .ensures .0)
+    ∙ ap told (c .before .before .before .before .before .before .before .judged2 .given .1) in
     omega (arith, read-short _ 0 nothing _ (reading-whole _ ∙ e))
 
 -- src/page.rt:69:26
@@ -77,11 +92,13 @@ array-read-starts-2 c = search needs
 
 -- src/page.rt:69:26
 add-starts : tie.Need-add-starts
-add-starts c = let e = sym (c .before .before .before .before .before .before .before .before .before .tally-trace .ensures .0) ∙ ap told (c .before .before .before .before .before .before .before .judged2 .given .1) in
-    let t = (rw (c .before .before .before .before .before .before .before .judged2 .given .1) at (c .before .before .before .before .before .before .before .before .before .tally-trace .ensures .1)) .0 in
+add-starts c = let e = sym (c .before .before .before .before .before .before .before .before .before .tally-trace .ensures .0)
+    ∙ ap told (c .before .before .before .before .before .before .before .judged2 .given .1) in
+    let t = (rw (c .before .before .before .before .before .before .before .judged2 .given .1) at
+    (c .before .before .before .before .before .before .before .before .before .tally-trace .ensures .1)) .0 in
     let trace = c .before .before .before .before .before .before .before .before .before .before .before .before .before .before .before .before .args .trace .now in
     let k = read-short trace 0 nothing _ (reading-whole trace ∙ e) in
-    omega (arith, count-small trace 1 (omega arith) k t, count-small trace 4 (omega arith) k t, count-small trace 5 (omega arith) k t, count-small trace 7 (omega arith) k t)
+    omega (arith, four-small trace k t)
 
 -- src/page.rt:69:50
 array-read-starts-3 : tie.Need-array-read-starts-3
@@ -89,11 +106,13 @@ array-read-starts-3 c = search needs
 
 -- src/page.rt:69:26
 add-starts-2 : tie.Need-add-starts-2
-add-starts-2 c = let e = sym (c .before .before .before .before .before .before .before .before .before .tally-trace .ensures .0) ∙ ap told (c .before .before .before .before .before .before .before .judged2 .given .1) in
-    let t = (rw (c .before .before .before .before .before .before .before .judged2 .given .1) at (c .before .before .before .before .before .before .before .before .before .tally-trace .ensures .1)) .0 in
+add-starts-2 c = let e = sym (c .before .before .before .before .before .before .before .before .before .tally-trace .ensures .0)
+    ∙ ap told (c .before .before .before .before .before .before .before .judged2 .given .1) in
+    let t = (rw (c .before .before .before .before .before .before .before .judged2 .given .1) at
+    (c .before .before .before .before .before .before .before .before .before .tally-trace .ensures .1)) .0 in
     let trace = c .before .before .before .before .before .before .before .before .before .before .before .before .before .before .before .before .args .trace .now in
     let k = read-short trace 0 nothing _ (reading-whole trace ∙ e) in
-    omega (arith, count-small trace 1 (omega arith) k t, count-small trace 4 (omega arith) k t, count-small trace 5 (omega arith) k t, count-small trace 7 (omega arith) k t)
+    omega (arith, four-small trace k t)
 
 -- src/page.rt:69:62
 array-read-starts-4 : tie.Need-array-read-starts-4
@@ -101,11 +120,13 @@ array-read-starts-4 c = search needs
 
 -- src/page.rt:69:26
 add-starts-3 : tie.Need-add-starts-3
-add-starts-3 c = let e = sym (c .before .before .before .before .before .before .before .before .before .tally-trace .ensures .0) ∙ ap told (c .before .before .before .before .before .before .before .judged2 .given .1) in
-    let t = (rw (c .before .before .before .before .before .before .before .judged2 .given .1) at (c .before .before .before .before .before .before .before .before .before .tally-trace .ensures .1)) .0 in
+add-starts-3 c = let e = sym (c .before .before .before .before .before .before .before .before .before .tally-trace .ensures .0)
+    ∙ ap told (c .before .before .before .before .before .before .before .judged2 .given .1) in
+    let t = (rw (c .before .before .before .before .before .before .before .judged2 .given .1) at
+    (c .before .before .before .before .before .before .before .before .before .tally-trace .ensures .1)) .0 in
     let trace = c .before .before .before .before .before .before .before .before .before .before .before .before .before .before .before .before .args .trace .now in
     let k = read-short trace 0 nothing _ (reading-whole trace ∙ e) in
-    omega (arith, count-small trace 1 (omega arith) k t, count-small trace 4 (omega arith) k t, count-small trace 5 (omega arith) k t, count-small trace 7 (omega arith) k t)
+    omega (arith, four-small trace k t)
 
 -- src/page.rt:70:17
 rate-of-requires : tie.Need-rate-of-requires
@@ -113,7 +134,8 @@ rate-of-requires c κs = search needs
 
 -- src/page.rt:52:1
 returns-2 : tie.Need-returns-2
-returns-2 c = page-refused _ _ _ _ _ (sym (c .before .before .before .before .tally-trace .ensures .0) ∙ ap told (c .before .before .judged .given .1)) (c .refuse .ensures)
+returns-2 c = page-refused _ _ _ _ _ (sym (c .before .before .before .before .tally-trace .ensures .0) ∙ ap told (c .before .before .judged .given .1))
+    (c .refuse .ensures)
 
 -- src/page.rt:52:1
 same-length : tie.Need-same-length
@@ -121,8 +143,10 @@ same-length c = search needs
 
 -- src/page.rt:52:1
 returns-3 : tie.Need-returns-3
-returns-3 c = let e = sym (c .before .before .before .before .before .before .before .before .before .before .tally-trace .ensures .0) ∙ ap told (c .before .before .before .before .before .before .before .before .judged2 .given .1) in
-    let t = rw (c .before .before .before .before .before .before .before .before .judged2 .given .1) at (c .before .before .before .before .before .before .before .before .before .before .tally-trace .ensures .1) in
+returns-3 c = let e = sym (c .before .before .before .before .before .before .before .before .before .before .tally-trace .ensures .0)
+    ∙ ap told (c .before .before .before .before .before .before .before .before .judged2 .given .1) in
+    let t = rw (c .before .before .before .before .before .before .before .before .judged2 .given .1) at
+    (c .before .before .before .before .before .before .before .before .before .before .tally-trace .ensures .1) in
     let a = c .before .before .before .before .before .before .before .before .before .before .before .before .before .before .before .before .before .args in
     let k = read-short (a .trace .now) 0 nothing _ (reading-whole (a .trace .now) ∙ e) in
     page-read _ _ _ _ e (replicate 256 0) (omega arith) (omega (arith, length-replicate {A = ℕ} 256 0))

@@ -24,7 +24,8 @@ note-item-requires c κs = search needs
 -- src/tally.rt:56:1
 returns : tie.Need-returns
 returns c = let a = c .before .before .before .before .before .before in
-    rw (sym (c .before .before .before .before .before .gives-own .ensures) ∙ c .before .before .before .before .if1 .taken) (note-one (ofCycle (a .args .i) (a .args .pst)) (a .pre .1) (c .note-item .ensures))
+    rw (sym (c .before .before .before .before .before .gives-own .ensures) ∙ c .before .before .before .before .if1 .taken)
+    (note-one (ofCycle (a .args .i) (a .args .pst)) (a .pre .1) (c .note-item .ensures))
 
 -- src/tally.rt:56:1
 returns-2 : tie.Need-returns-2

@@ -23,7 +23,8 @@ note-item-requires c κs = search needs
 -- src/tally.rt:40:1
 returns : tie.Need-returns
 returns c = let a = c .before .before .before .before .before .before .before in
-    λ trace. rw (eq-eqb _ _ (c .before .before .before .before .before .if1 .taken)) (note-one (ofValue trace (a .args .i) (a .args .carried .marker)) (a .pre .1) (c .note-item .ensures))
+    λ trace. rw (eq-eqb _ _ (c .before .before .before .before .before .if1 .taken))
+    (note-one (ofValue trace (a .args .i) (a .args .carried .marker)) (a .pre .1) (c .note-item .ensures))
 
 -- src/tally.rt:40:1
 returns-2 : tie.Need-returns-2

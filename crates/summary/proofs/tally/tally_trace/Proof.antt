@@ -53,7 +53,15 @@ nothing-carried-requires c κs = tt
 -- src/tally.rt:108:5
 loop-holds : tie.Need-loop-holds Inv-loop μ-loop
 unfolding carriedInto itemsBefore firstEntries
-loop-holds c = (search needs, c .nothing-carried .ensures, refl, c .before .before .before .pre, refl, judging-starts _ _ (search needs) (c .nothing-carried .ensures))
+loop-holds c = (
+  search needs,
+  c .nothing-carried .ensures,
+  refl,
+  c .before .before .before .pre,
+  refl,
+  judging-starts _ _ (search needs)
+      (c .nothing-carried .ensures),
+)
 
 -- src/tally.rt:109:19
 shared-slice-read-pst : tie.Need-shared-slice-read-pst Inv-loop μ-loop
@@ -81,8 +89,15 @@ returns-3 c = let w = c .before .before .before .before .before .before .loop in
 
 -- src/tally.rt:122:9
 put-entry-requires : tie.Need-put-entry-requires Inv-loop μ-loop
-put-entry-requires c κs = let w = c .before .before .before .before .before .before .before .loop in
-    (search needs, omega (arith, w .inv .2, items-before-le (c .before .before .before .before .before .before .before .before .before .before .before .args .trace .now) (w .i)))
+put-entry-requires c κs = let w = c .before .before .before .before .before .before .before .loop in (
+  search needs,
+  omega (
+    arith,
+    w .inv .2,
+    items-before-le
+        (c .before .before .before .before .before .before .before .before .before .before .before .args .trace .now) (w .i),
+  ),
+)
 
 -- src/tally.rt:123:9
 note-value-requires : tie.Need-note-value-requires Inv-loop μ-loop
@@ -96,8 +111,12 @@ note-own-requires : tie.Need-note-own-requires Inv-loop μ-loop
 note-own-requires c κs = let w = c .before .before .before .before .before .before .before .before .before .before .before .before .before .before .before .loop in
     let trace = c .before .before .before .before .before .before .before .before .before .before .before .before .before .before .before .before .before .before .before .args .trace .now in
     let t = c .before .before .before .note-value .ensures trace (itemsBefore trace (w .i)) (w .inv .3) in
-    let p : pst trace (w .i) < 16 = omega (arith, c .before .before .before .before .before .before .before .before .before .before .before .before .before .shared-slice-known2 .given (w .i) .fits) in
-    (search needs, p, room-for-one (itemsBefore trace (w .i) ++ valueItem trace (w .i) (w .carried)) (pst trace (w .i)) p (omega (arith, items-with-value trace (w .i) (w .carried))) t)
+    let p : pst trace (w .i) < 16 = omega (arith, c .before .before .before .before .before .before .before .before .before .before .before .before .before .shared-slice-known2 .given (w .i) .fits) in (
+      search needs,
+      p,
+      room-for-one (itemsBefore trace (w .i) ++ valueItem trace (w .i) (w .carried)) (pst trace (w .i)) p
+          (omega (arith, items-with-value trace (w .i) (w .carried))) t,
+    )
 
 -- src/tally.rt:125:18
 count-items-requires : tie.Need-count-items-requires Inv-loop μ-loop
@@ -127,14 +146,16 @@ loop-again c = let w = c .before .before .before .before .before .before .before
     let a = c .before .before .before .before .before .before .before .before .before .before .before .before .before .before .before .before .before .before .before .before .before .before .args in
     let trace = a .trace .now in
     let r = sym (c .before .before .before .before .before .before .before .before .before .before .before .before .before .before .before .is-reserved .ensures) ∙ c .before .before .before .before .before .before .before .before .before .before .before .before .before .before .if2 .left in
-    let s = sym (c .before .before .before .before .before .before .before .before .before .before .before .before .before .comes-too-soon .ensures) ∙ c .before .before .before .before .before .before .before .before .before .before .before .before .if3 .left in
+    let s = sym (c .before .before .before .before .before .before .before .before .before .before .before .before .before .comes-too-soon .ensures)
+    ∙ c .before .before .before .before .before .before .before .before .before .before .before .before .if3 .left in
     let v = c .before .before .before .before .before .before .note-value .ensures trace (itemsBefore trace (w .i)) (w .inv .3) in
     let t = c .before .before .note-own .ensures (itemsBefore trace (w .i) ++ valueItem trace (w .i) (w .carried)) v in (
       search needs,
       c .after-cycle .ensures ∙ carried-next _ (w .i) (w .carried) (w .inv .1),
       rw (c .before .count-items .ensures) (count-next _ (w .i) (w .items) (w .carried) (w .inv .2) (w .inv .1)),
       cycle-noted trace (w .i) (w .carried) (w .inv .1) t,
-      c .before .before .before .before .before .before .before .before .before .before .put-entry .ensures ∙ entry-next trace (a .entries .now) (w .i) (w .entries) (w .items) (w .carried) (w .inv .4) (w .inv .2) (w .inv .1),
+      c .before .before .before .before .before .before .before .before .before .before .put-entry .ensures
+          ∙ entry-next trace (a .entries .now) (w .i) (w .entries) (w .items) (w .carried) (w .inv .4) (w .inv .2) (w .inv .1),
       rw (c .after-cycle .ensures) (sym (earliest-passes _ (w .i) _ _ (search needs) r s) ∙ w .inv .5),
     )
 
@@ -144,7 +165,8 @@ unfolding items indexWords
 returns-4 c = let w = c .before .before .before .loop in
     let trace = c .before .before .before .before .before .before .before .args .trace .now in
     let e : w .i ≡ length trace = omega arith in (
-      ap counted (rw e at (w .inv .2)) ∙ rw (eq-eqb _ _ (c .if4 .taken)) at (sym (earliest-ends trace (w .i) (w .carried) (counted (length (items trace))) (omega arith))) ∙ w .inv .5,
+      ap counted (rw e at (w .inv .2)) ∙ rw (eq-eqb _ _ (c .if4 .taken)) at
+          (sym (earliest-ends trace (w .i) (w .carried) (counted (length (items trace))) (omega arith))) ∙ w .inv .5,
       (rw e at (w .inv .3), rw e at (w .inv .4)),
     )
 

@@ -30,7 +30,8 @@ returns c = let w = c .before .before .before .loop in sym (below-digits _ (w .n
 
 -- src/asked.rt:23:13
 returns-2 : tie.Need-returns-2 Inv-loop μ-loop
-returns-2 c = let w = c .before .before .before .before .loop in sym (above-digits _ (w .number) (w .i) (search needs) (c .before .if1 .left) (c .if2 .taken)) ∙ w .inv .2
+returns-2 c = let w = c .before .before .before .before .loop in sym
+    (above-digits _ (w .number) (w .i) (search needs) (c .before .if1 .left) (c .if2 .taken)) ∙ w .inv .2
 
 -- src/asked.rt:25:18
 mul-number : tie.Need-mul-number Inv-loop μ-loop
@@ -46,7 +47,8 @@ add-number c = search needs
 
 -- src/asked.rt:27:13
 returns-3 : tie.Need-returns-3 Inv-loop μ-loop
-returns-3 c = let w = c .before .before .before .before .before .loop in sym (too-wide _ (w .number) (w .i) (search needs) (c .before .before .if1 .left) (c .before .if2 .left) (c .if3 .taken)) ∙ w .inv .2
+returns-3 c = let w = c .before .before .before .before .before .loop in sym
+    (too-wide _ (w .number) (w .i) (search needs) (c .before .before .if1 .left) (c .before .if2 .left) (c .if3 .taken)) ∙ w .inv .2
 
 -- src/asked.rt:29:9
 add-i : tie.Need-add-i Inv-loop μ-loop
@@ -58,7 +60,12 @@ loop-less c = search needs
 
 -- src/asked.rt:17:5
 loop-again : tie.Need-loop-again Inv-loop μ-loop
-loop-again c = let w = c .before .before .before .before .before .loop in (search needs, search needs, sym (one-digit-more _ (w .number) (w .i) (search needs) (c .before .before .if1 .left) (c .before .if2 .left) (c .if3 .left)) ∙ w .inv .2)
+loop-again c = let w = c .before .before .before .before .before .loop in (
+  search needs,
+  search needs,
+  sym (one-digit-more _ (w .number) (w .i) (search needs) (c .before .before .if1 .left) (c .before .if2 .left)
+      (c .if3 .left)) ∙ w .inv .2,
+)
 
 -- src/asked.rt:31:17
 cast-t11 : tie.Need-cast-t11 Inv-loop μ-loop

@@ -31,7 +31,8 @@ enum-known-read c = search needs
 
 -- src/asked.rt:47:17
 returns-2 : tie.Need-returns-2
-returns-2 c = sym (some-word _ (c .before .before .before .before .before .if1 .left) ∙ ap multiple (sym (c .before .before .before .before .read-decimal .ensures) ∙ c .before .before .read .given .1) ∙ rw (eq-eqb _ _ (c .if2 .taken)) refl)
+returns-2 c = sym (some-word _ (c .before .before .before .before .before .if1 .left)
+    ∙ ap multiple (sym (c .before .before .before .before .read-decimal .ensures) ∙ c .before .before .read .given .1) ∙ rw (eq-eqb _ _ (c .if2 .taken)) refl)
 
 -- src/asked.rt:35:1
 returns-3 : tie.Need-returns-3
@@ -43,7 +44,8 @@ returns-4 c = sym (some-word _ (c .before .before .before .if1 .left) ∙ ap mul
 
 -- src/asked.rt:35:1
 returns-5 : tie.Need-returns-5
-returns-5 c = sym (some-word _ (c .before .before .before .before .before .if1 .left) ∙ ap multiple (sym (c .before .before .before .before .read-decimal .ensures) ∙ c .before .before .read .given .1) ∙ rw (ne-eqb _ _ (c .if2 .left)) refl)
+returns-5 c = sym (some-word _ (c .before .before .before .before .before .if1 .left)
+    ∙ ap multiple (sym (c .before .before .before .before .read-decimal .ensures) ∙ c .before .before .read .given .1) ∙ rw (ne-eqb _ _ (c .if2 .left)) refl)
 
 pub read-from-spec : {M : Type 1} → statement M
 read-from-spec =
