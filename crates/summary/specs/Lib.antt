@@ -11,3 +11,4 @@ pub mod SumLaws
 pub mod RateLaws
 pub mod Examples
 pub mod ReadLaws
+pub mod RestLaws

@@ -21,7 +21,7 @@ use Rattle.summary.specs.Index.{entryCount, indexWords}
 use Rattle.summary.specs.IndexLaws.{length-entries}
 use Rattle.summary.specs.Page.{pageOf, blank, pageBy, indexShort, summary, indexAfter, PageMeets}
 
-length-index : (trace : List ℕ) → length (indexWords trace) ≡ entryCount (length trace)
+pub length-index : (trace : List ℕ) → length (indexWords trace) ≡ entryCount (length trace)
 unfolding indexWords
 length-index trace = length-entries trace (entryCount (length trace))
 
