@@ -154,8 +154,8 @@ loop-again c = let w = c .before .before .before .before .before .before .before
       c .after-cycle .ensures ∙ carried-next _ (w .i) (w .carried) (w .inv .1),
       rw (c .before .count-items .ensures) (count-next _ (w .i) (w .items) (w .carried) (w .inv .2) (w .inv .1)),
       cycle-noted trace (w .i) (w .carried) (w .inv .1) t,
-      c .before .before .before .before .before .before .before .before .before .before .put-entry .ensures
-          ∙ entry-next trace (a .entries .now) (w .i) (w .entries) (w .items) (w .carried) (w .inv .4) (w .inv .2) (w .inv .1),
+      rw (c .before .before .before .before .before .before .before .before .before .before .put-entry .ensures)
+          (entry-next trace (a .entries .now) (w .i) (w .entries) (w .items) (w .carried) (w .inv .4) (w .inv .2) (w .inv .1)),
       rw (c .after-cycle .ensures) (sym (earliest-passes _ (w .i) _ _ (search needs) r s) ∙ w .inv .5),
     )
 
