@@ -37,8 +37,12 @@ due-at-most trace (suc i) = by-test (due-at-most trace i) (marker (pst trace i))
     by-test before true = omega arith
     by-test before false = omega arith
 
+-- a trace of bytes, as a `&[u8]` always is
+abbrev pub Bytes : List ℕ → Type 0
+Bytes trace = (k : ℕ) → getD trace k 0 < 256
+
 -- a run has a PST for its code: of a trace of bytes it is below 16
-pub run-below : (trace : List ℕ) → ((k : ℕ) → getD trace k 0 < 256) → (i : ℕ) → carriedInto trace i .run < 16
+pub run-below : (trace : List ℕ) → Bytes trace → (i : ℕ) → carriedInto trace i .run < 16
 unfolding carriedInto after
 run-below trace bytes zero = omega arith
 run-below trace bytes (suc i) = by-test (run-below trace bytes i) (marker (pst trace i)) (ltb (pst trace i) 12)

@@ -3,11 +3,10 @@ use Prim.Native.Nat.{ℕ, _/_, _%_, _≤_, _<_, _^_}
 use mathlib.Core.Path.{_≡_}
 use mathlib.Core.List.{List}
 use native.Mathlib.Omega.{arith}
-use lib.ListN.{getD}
 use Rattle.trace.specs.ItemLaws.{items-before-le}
 use Rattle.index.specs.declared.Entry.{Entry}
 use Rattle.index.specs.Entry.{entryAt, entryWord, ofWord}
-use Rattle.index.specs.RangeLaws.{marker-at-most, due-at-most, run-below}
+use Rattle.index.specs.RangeLaws.{Bytes, marker-at-most, due-at-most, run-below}
 
 -- an entry whose parts fit their places is read back from its word
 pub word-read-back : (e : Entry) → e .carried .marker < 16 → e .carried .due < 16 → e .carried .run < 16 → ofWord (e .cycle) (entryWord e) ≡ e
@@ -26,7 +25,7 @@ word-read-back e m d r = rw (items-back, marker-back, due-back, run-back)
     run-back = omega arith
 
 -- of a trace of bytes
-module _ (trace : List ℕ) (bytes : (k : ℕ) → getD trace k 0 < 256) (i : ℕ) where
+module _ (trace : List ℕ) (bytes : Bytes trace) (i : ℕ) where
   pub entry-read-back : ofWord i (entryWord (entryAt trace i)) ≡ entryAt trace i
   entry-read-back = word-read-back (entryAt trace i) (omega (arith, marker-at-most trace i)) (omega (arith, due-at-most trace i)) (run-below trace bytes i)
 

@@ -39,8 +39,8 @@ fn put_hundredths(text: &mut [u8], at: usize, hundredths: u64) -> usize {
 pub fn put_rate(text: &mut [u8], at: usize, rate: Rate, cycles: u32, starts: u32) -> usize {
     match rate {
         Rate::NothingStarted => put_text(text, at, b"rate none\n"),
-        Rate::Average(average) => {
-            let bits = rate::bits_of(average);
+        Rate::Average(_) => {
+            let bits = rate::bits_of(rate);
             let at = put_text(text, at, b"rate ");
             let at = put_hundredths(text, at, rate::count_hundredths(cycles, starts));
             let at = put_text(text, at, b" bits ");

@@ -1,8 +1,6 @@
 // The rate of a run: cycles by instruction starts, as a double and to two places.
 ghost use mathlib.Core.Path.{_≡_};
-ghost use mathlib.Core.Bool.{cond};
-ghost use lib.Ieee.{binary64, isNan, toBits};
-ghost use Rattle.rate.specs.Rate.{rateOf, hundredths};
+ghost use Rattle.rate.specs.Rate.{rateOf, pattern, rateBits, hundredths};
 
 // "there is no rate where nothing started"
 pub enum Rate {
@@ -21,13 +19,23 @@ pub fn rate_of(cycles: u32, starts: u32) -> Rate
 }
 
 // The bits of a double. A NaN, which no rate is, has none of its own: 0 stands for them.
-pub fn bits_of(rate: f64) -> u64
-    ensures { λ r. ⌜ r ≡ cond (isNan rate) 0 (toBits binary64 rate) ⌝ }
+fn pattern_of(value: f64) -> u64
+    ensures { λ r. ⌜ r ≡ pattern value ⌝ }
 {
-    if rate != rate {
+    if value != value {
         return 0;
     }
-    f64::to_bits(rate)
+    f64::to_bits(value)
+}
+
+// The bits of a rate, 0 where there is none.
+pub fn bits_of(rate: Rate) -> u64
+    ensures { λ r. ⌜ r ≡ rateBits rate ⌝ }
+{
+    match rate {
+        Rate::NothingStarted => 0,
+        Rate::Average(average) => pattern_of(average),
+    }
 }
 
 // Cycles by starts in hundredths, half rounded up, from the counts themselves; 0 where nothing started.

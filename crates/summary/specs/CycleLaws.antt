@@ -11,8 +11,9 @@ use Rattle.trace.specs.declared.cycle.Item.{Item}
 use Rattle.trace.specs.Cycle.{pst, carriedInto}
 use Rattle.trace.specs.Items.{ofValue, valueItem, ownItem, itemsAt, itemsBefore}
 use Rattle.trace.specs.ItemLaws.{items-more, items-before-le}
-use Rattle.summary.specs.Tally.{countOf, Tallied}
+use Rattle.summary.specs.Tally.{countOf}
 use Rattle.summary.specs.TallyLaws.{of-code, count-le-length}
+use Rattle.summary.specs.Noting.{Tallied}
 
 -- a cycle's value, then its own item: the items of one cycle more
 pub cycle-noted : (trace : List ℕ) (i : ℕ) (c : Carried) {counts firsts lasts : List ℕ} → c ≡ carriedInto trace i

@@ -1,7 +1,6 @@
 -- P9's page and index ("[2]" of the desk's language), computed from the definitions; a page where nothing started.
 use mathlib.Core.Path.{_≡_, refl}
-use Prim.Native.Nat.{ℕ, _*_, _+_}
-use mathlib.Core.List.{List, [], _∷_}
+use mathlib.Core.List.{[], _∷_}
 use lib.ListN.{length}
 use Rattle.rate.specs.declared.Rate.the-variants.{NothingStarted}
 use Rattle.rate.specs.Rate.{rateOf, hundredths}
@@ -11,11 +10,11 @@ use Rattle.trace.specs.Listing.{refusal, counted, tooLong, earliest, endsInside
 use Rattle.trace.specs.Examples.{p9}
 use Rattle.summary.specs.Tally.{countOf, firstOf, lastOf, startsOf, each, perCode}
 use Rattle.summary.specs.Index.{firstEntries, indexWords}
-use Rattle.summary.specs.Page.{indexShort, summary}
+use Rattle.summary.specs.Page.{indexShort, pageVerdict}
 
 pub record Shown : Type 0 where
   -- "page cycles=9 items=5 starts=3"
-  pub p9-items : summary p9 1 ≡ counted 5
+  pub p9-items : pageVerdict p9 1 ≡ counted 5
   pub p9-starts : startsOf (items p9) ≡ 3
   -- "rate 3.00"; its bits stand with the rate
   pub p9-hundredths : hundredths (length p9) (startsOf (items p9)) ≡ 300
@@ -26,17 +25,17 @@ pub record Shown : Type 0 where
   -- "index 0 items 0 transfer none run none"
   pub p9-index : indexWords p9 ≡ 0 ∷ []
   -- no room for the one entry
-  pub p9-short : summary p9 0 ≡ refusal 11 0
+  pub p9-short : pageVerdict p9 0 ≡ refusal 11 0
   -- no cycles: no entry, and no buffer is needed
-  pub empty : summary [] 0 ≡ counted 0
+  pub empty : pageVerdict [] 0 ≡ counted 0
   pub empty-index : indexWords [] ≡ []
   -- a run of stops: nothing started
   pub nothing-started : rateOf 2 (startsOf (items (0xE0 ∷ 0xE0 ∷ []))) ≡ NothingStarted
   -- the reader's own comes before the buffer's
-  pub reserved-first : summary (0x20 ∷ []) 0 ≡ refusal 8 0
+  pub reserved-first : pageVerdict (0x20 ∷ []) 0 ≡ refusal 8 0
 
 pub shown : Shown
-unfolding givesOwn after carriedInto value itemsAt itemsBefore items tooLong earliest endsInside judgedFrom judged countOf firstOf lastOf startsOf each firstEntries indexWords indexShort summary
+unfolding givesOwn after carriedInto value itemsAt itemsBefore items tooLong earliest endsInside judgedFrom judged countOf firstOf lastOf startsOf each firstEntries indexWords indexShort pageVerdict
 shown =
     record {
       p9-items = refl;

@@ -1,6 +1,6 @@
 -- Laws of the index: one cycle more, and which entry stands where.
 use mathlib.Core.Path.{_≡_, refl, ap, sym, _∙_}
-use Prim.Native.Nat.{ℕ, zero, suc, _+_, _*_, _/_, _%_, _≤_, _<_}
+use Prim.Native.Nat.{ℕ, zero, suc, _+_, _*_, _/_, _%_, _<_}
 use mathlib.Core.Bool.{Bool, true, false, cond}
 use mathlib.Core.List.{List, [], _∷_, _++_}
 use native.Mathlib.Nat.{zero-add}
@@ -14,6 +14,7 @@ use Rattle.trace.specs.Cycle.{carriedInto}
 use Rattle.trace.specs.Items.{itemsBefore}
 use Rattle.trace.specs.StoreLaws.{sets-append}
 use Rattle.index.specs.Entry.{entryAt, entryWord, ofWord}
+use Rattle.index.specs.RangeLaws.{Bytes}
 use Rattle.index.specs.WordLaws.{entry-read-back}
 use Rattle.summary.specs.Index.{entryCount, firstEntries, indexWords}
 
@@ -79,6 +80,6 @@ unfolding indexWords
 index-entry trace k h = entry-stands trace (entryCount (length trace)) k (omega arith)
 
 -- THE LAW: what is read from a word of the index is what the cycles before its own carry
-pub index-read-back : (trace : List ℕ) → ((i : ℕ) → getD trace i 0 < 256) → (k : ℕ) → 256 * k < length trace
+pub index-read-back : (trace : List ℕ) → Bytes trace → (k : ℕ) → 256 * k < length trace
     → ofWord (256 * k) (getD (indexWords trace) k 0) ≡ entryAt trace (256 * k)
 index-read-back trace bytes k h = ap (ofWord (256 * k)) (index-entry trace k h) ∙ entry-read-back trace bytes (256 * k)

@@ -1,7 +1,7 @@
 -- Laws of the first and the last: the least and the greatest cycle among the items of a code.
 use mathlib.Core.Path.{_≡_, refl, ap, sym, _∙_}
 use mathlib.Core.Logic.{_⊎_, inl, inr}
-use Prim.Native.Nat.{ℕ, zero, suc, _+_, _≤_, _<_}
+use Prim.Native.Nat.{ℕ, zero, suc, _+_, _-_, _≤_, _<_}
 use mathlib.Core.Bool.{Bool, true, false, cond}
 use mathlib.Core.List.{List, [], _∷_, _++_}
 use native.Mathlib.Omega.{arith}
@@ -10,8 +10,9 @@ use lib.ListN.{length}
 use borrow.Author.Tests.{eq-eqb, eqb-true, eqb-false}
 use Rattle.trace.specs.declared.cycle.Carried.{Carried}
 use Rattle.trace.specs.declared.cycle.Item.{Item}
-use Rattle.trace.specs.Cycle.{pst, givesOwn, carriedInto}
-use Rattle.trace.specs.Items.{one, ofValue, ofCycle, valueItem, ownItem, itemsAt, itemsBefore, items}
+use Rattle.trace.specs.Cycle.{pst, givesOwn, after, carriedInto}
+use Rattle.trace.specs.Items.{one, ofValue, ofCycle, valueItem, ownItem, itemsAt, itemsBefore, itemsFrom, items}
+use Rattle.index.specs.Entry.{entryAt, itemsOn}
 use Rattle.summary.specs.Tally.{countOf, firstOf, lastOf}
 
 -- an item is one of these
@@ -82,6 +83,24 @@ of-earlier-cycles trace (suc i) x a =
         → (Among x (itemsBefore trace i) → x .cycle < i) → x .cycle < suc i
     by-part (inl m) earlier = omega (arith, earlier m)
     by-part (inr m) earlier = omega (arith, of-its-cycle trace i (carriedInto trace i) (pst trace i) x m)
+
+-- and those of a cycle and the ones after it are of no earlier cycle
+pub of-later-cycles : (trace : List ℕ) (n i : ℕ) (c : Carried) (x : Item) → Among x (itemsFrom trace i c n) → i ≤ x .cycle
+unfolding itemsFrom
+of-later-cycles trace zero i c x a = absurd a
+of-later-cycles trace (suc n) i c x a =
+    by-part (among-either x (itemsAt trace i c (pst trace i)) (itemsFrom trace (i + 1) (after c (pst trace i)) n) a)
+    (of-later-cycles trace n (i + 1) (after c (pst trace i)) x)
+  where
+    by-part : Among x (itemsAt trace i c (pst trace i)) ⊎ Among x (itemsFrom trace (i + 1) (after c (pst trace i)) n)
+        → (Among x (itemsFrom trace (i + 1) (after c (pst trace i)) n) → i + 1 ≤ x .cycle) → i ≤ x .cycle
+    by-part (inl m) later = omega (arith, of-its-cycle trace i c (pst trace i) x m)
+    by-part (inr m) later = omega (arith, later m)
+
+-- "the lines of the full listing whose cycle is FROM or later": the items before an entry are of earlier cycles, those from it on of its own or later ones
+pub entry-parts-cycles : (trace : List ℕ) (i : ℕ) (x : Item)
+    → (Among x (itemsBefore trace i) → x .cycle < i) × (Among x (itemsOn trace (entryAt trace i)) → i ≤ x .cycle)
+entry-parts-cycles trace i x = (of-earlier-cycles trace i x, of-later-cycles trace (length trace - i) i (carriedInto trace i) x)
 
 ascending-before : (trace : List ℕ) (i : ℕ) → Ascending (itemsBefore trace i)
 unfolding itemsBefore

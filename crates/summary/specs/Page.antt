@@ -54,8 +54,8 @@ unfoldable pub indexShort : List ℕ → ℕ → Told → Told
 indexShort trace room otherwise = cond (ltb room (entryCount (length trace))) (refusal (number BufferTooShort) 0) otherwise
 
 -- "Refusals: the reader's own, then 11 for the index buffer."; else the items are counted
-unfoldable pub summary : List ℕ → ℕ → Told
-summary trace room = judged trace (indexShort trace room (counted (length (items trace))))
+unfoldable pub pageVerdict : List ℕ → ℕ → Told
+pageVerdict trace room = judged trace (indexShort trace room (counted (length (items trace))))
 
 -- a refusal leaves the buffer as given; else the index stands at its front, and what is beyond it stays
 abbrev pub indexAfter : List ℕ → List ℕ → Told → List ℕ
@@ -65,8 +65,8 @@ indexAfter trace before (counted n) = indexWords trace ++ drop (length (indexWor
 -- what a page promises, for every trace and every buffer
 pub record PageMeets (trace before : List ℕ) (r : Page) (after : List ℕ) : Type 0 where
   -- the judgement's number and values are the paper's
-  pub answer : told (r .judged) ≡ summary trace (length before)
+  pub answer : told (r .judged) ≡ pageVerdict trace (length before)
   -- all else that is answered
   pub page : r ≡ pageBy trace (r .judged)
   -- every word of the buffer
-  pub words : after ≡ indexAfter trace before (summary trace (length before))
+  pub words : after ≡ indexAfter trace before (pageVerdict trace (length before))

@@ -1,25 +1,26 @@
 -- Laws of the page: the promise in each of its cases, and that no second page fits.
 use mathlib.Core.Path.{_≡_, refl, ap, sym, _∙_}
 use Prim.Native.Nat.{ℕ, _≤_, _<_}
+use mathlib.Core.Bool.{Bool, true, false, cond}
 use mathlib.Core.List.{List, _++_}
 use native.Mathlib.Nat.{zero-add}
 use native.Mathlib.Omega.{arith}
 use lib.ListN.{length, drop}
+use lib.Dec.{ltb}
 use lib.Seq.{sets, paste, take-at}
 use borrow.Author.Tests.{lt-ltb, le-ltb}
 use Rattle.grounds.specs.declared.Ground.{Ground}
 use Rattle.grounds.specs.declared.Ground.the-variants.{BufferTooShort}
 use Rattle.grounds.specs.Grounds.{number}
-use Rattle.trace.specs.declared.listing.Listing.{Listing}
 use Rattle.trace.specs.Items.{items}
-use Rattle.trace.specs.Listing.{Told, refusal, counted, told, judged, reading}
-use Rattle.trace.specs.JudgeLaws.{refused-whatever, read-whatever}
+use Rattle.trace.specs.Listing.{refusal, counted, told, judged, reading}
+use Rattle.trace.specs.JudgeLaws.{refused-whatever, read-whatever, passed-so}
 use Rattle.trace.specs.ListingLaws.{told-one}
 use Rattle.trace.specs.StoreLaws.{sets-front}
 use Rattle.summary.specs.declared.page.Page.{Page}
 use Rattle.summary.specs.Index.{entryCount, indexWords}
 use Rattle.summary.specs.IndexLaws.{length-entries}
-use Rattle.summary.specs.Page.{pageOf, blank, pageBy, indexShort, summary, indexAfter, PageMeets}
+use Rattle.summary.specs.Page.{pageOf, blank, pageBy, indexShort, pageVerdict, indexAfter, PageMeets}
 
 pub length-index : (trace : List ℕ) → length (indexWords trace) ≡ entryCount (length trace)
 unfolding indexWords
@@ -38,13 +39,13 @@ index-copied trace before entries h =
     n = entryCount (length trace)
 
 module _ (trace before : List ℕ) (r : Page) where
-  meets : {after : List ℕ} → told (r .judged) ≡ summary trace (length before) → r ≡ pageBy trace (r .judged)
+  meets : {after : List ℕ} → told (r .judged) ≡ pageVerdict trace (length before) → r ≡ pageBy trace (r .judged)
       → after ≡ indexAfter trace before (told (r .judged)) → PageMeets trace before r after
   meets e p w = record { answer = e; page = p; words = w ∙ ap (indexAfter trace before) e }
 
   -- a trace that the reader refuses
   pub page-refused : (ground : Ground) (cycle : ℕ) → reading trace ≡ refusal (number ground) cycle → r ≡ blank ground cycle → PageMeets trace before r before
-  unfolding summary
+  unfolding pageVerdict
   page-refused ground cycle e p =
       meets
       (rw p (sym (refused-whatever trace (number ground) cycle e (indexShort trace (length before) (counted (length (items trace)))))))
@@ -54,7 +55,7 @@ module _ (trace before : List ℕ) (r : Page) where
   module _ (n : ℕ) (e : reading trace ≡ counted n) where
     -- one whose index has no room
     pub page-short : length before < entryCount (length trace) → r ≡ blank BufferTooShort 0 → PageMeets trace before r before
-    unfolding summary indexShort
+    unfolding pageVerdict indexShort
     page-short h p =
         meets
         (rw p (sym (read-whatever trace n e .1 (indexShort trace (length before) (counted (length (items trace))))
@@ -66,7 +67,7 @@ module _ (trace before : List ℕ) (r : Page) where
     pub page-read : (entries : List ℕ) {after : List ℕ} → entryCount (length trace) ≤ length before → entryCount (length trace) ≤ length entries
         → r ≡ pageOf trace n
         → after ≡ paste before 0 (sets entries 0 (indexWords trace)) (entryCount (length trace)) → PageMeets trace before r after
-    unfolding summary indexShort
+    unfolding pageVerdict indexShort
     page-read entries h k p w =
         meets
         (rw p (ap counted (read-whatever trace n e .0)
@@ -74,6 +75,21 @@ module _ (trace before : List ℕ) (r : Page) where
         ∙ rw (le-ltb (length before) (entryCount (length trace)) h) refl)))
         (rw p refl)
         (rw p (w ∙ index-copied trace before entries k))
+
+-- a page that is given counts the items of the listing
+pub page-counts : (trace : List ℕ) (room n : ℕ) → pageVerdict trace room ≡ counted n → n ≡ length (items trace)
+unfolding pageVerdict indexShort
+page-counts trace room n e = by-room (ltb room (entryCount (length trace))) (passed-so trace n _ e)
+  where
+    by-room : (b : Bool) → cond b (refusal (number BufferTooShort) 0) (counted (length (items trace))) ≡ counted n → n ≡ length (items trace)
+    by-room true f = let z : _≡_ {A = ℕ} 0 1 = cc in absurd (omega arith)
+    by-room false f = cc
+
+-- and its trace is one that is read
+pub page-read-so : (trace : List ℕ) (room n : ℕ) → pageVerdict trace room ≡ counted n → reading trace ≡ counted n
+unfolding pageVerdict reading
+page-read-so trace room n e =
+    ap (judged trace) (ap counted (sym (page-counts trace room n e)) ∙ sym (passed-so trace n _ e)) ∙ e
 
 -- no second page fits, and no second buffer
 pub page-one : {trace before after after′ : List ℕ} {r r′ : Page} → PageMeets trace before r after → PageMeets trace before r′ after′ → (r ≡ r′)

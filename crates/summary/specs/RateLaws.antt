@@ -1,5 +1,5 @@
 -- Laws of a page's rate: no more starts than cycles, so that both are doubles exactly, and the rate is their fraction rounded once.
-use mathlib.Core.Path.{_≡_, refl, ap, sym, _∙_}
+use mathlib.Core.Path.{_≡_, refl, ap, sym}
 use Prim.Native.Nat.{ℕ, zero, suc, _+_, _≤_, _<_}
 use mathlib.Core.Bool.{Bool, true, false, cond, true≢false}
 use mathlib.Core.List.{List, [], _∷_, _++_}
@@ -12,6 +12,7 @@ use Rattle.trace.specs.declared.cycle.Carried.{Carried}
 use Rattle.trace.specs.declared.cycle.Item.{Item}
 use Rattle.trace.specs.Cycle.{pst, givesOwn, marker, after, carriedInto}
 use Rattle.trace.specs.Items.{one, ofValue, ofCycle, valueItem, ownItem, itemsAt, itemsBefore, items}
+use Rattle.trace.specs.ItemLaws.{one-le}
 use Rattle.rate.specs.declared.Rate.the-variants.{Average}
 use Rattle.rate.specs.Rate.{rateOf}
 use Rattle.rate.specs.RateLaws.{rounded-once}
@@ -21,10 +22,6 @@ starts-append : (xs ys : List Item) → startsOf (xs ++ ys) ≡ startsOf xs + st
 unfolding startsOf
 starts-append [] ys = omega arith
 starts-append (x ∷ xs) ys = omega (arith, starts-append xs ys)
-
-at-most-one : (b : Bool) → one b ≤ 1
-at-most-one true = omega arith
-at-most-one false = omega arith
 
 marker-no-start : (p : ℕ) → marker p ≡ true → start p ≡ false
 marker-no-start p e = rw (
@@ -59,7 +56,7 @@ starts-of-one false x e = refl
 
 starts-at-most-one : (b : Bool) (x : Item) → startsOf (cond b (x ∷ []) []) ≤ 1
 unfolding startsOf
-starts-at-most-one true x = omega (arith, at-most-one (start (x .code)))
+starts-at-most-one true x = omega (arith, one-le (start (x .code)))
 starts-at-most-one false x = omega arith
 
 -- no more than one start a cycle

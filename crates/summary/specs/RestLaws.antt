@@ -8,6 +8,7 @@ use Rattle.trace.specs.declared.listing.Listing.{Listing}
 use Rattle.trace.specs.Listing.{counted, told, ListingMeets}
 use Rattle.index.specs.declared.Entry.{Entry}
 use Rattle.index.specs.Entry.{entryAt, ofWord, EntryMeets}
+use Rattle.index.specs.RangeLaws.{Bytes}
 use Rattle.index.specs.EntryLaws.{entry-is-the-rest}
 use Rattle.summary.specs.declared.page.Page.{Page}
 use Rattle.summary.specs.Index.{indexWords}
@@ -16,7 +17,7 @@ use Rattle.summary.specs.Page.{indexAfter, PageMeets}
 use Rattle.summary.specs.PageLaws.{length-index}
 
 -- a page of a trace of bytes, with the buffer that it left, and the k-th word of that
-module _ (trace : List ℕ) (bytes : (i : ℕ) → getD trace i 0 < 256) (given index : List ℕ) (page : Page) (met : PageMeets trace given page index)
+module _ (trace : List ℕ) (bytes : Bytes trace) (given index : List ℕ) (page : Page) (met : PageMeets trace given page index)
     (n : ℕ) (accepted : told (page .judged) ≡ counted n) (k : ℕ) (within : 256 * k < length trace) where
   -- the entry that is read from it
   abbrev pub entry : Entry

@@ -1,8 +1,7 @@
--- Laws of the instruction starts: they are four of the counts, and no more than the cycles.
-use mathlib.Core.Path.{_≡_, refl, ap, sym, _∙_}
+-- Laws of the instruction starts: they are four of the counts, and the counts of a trace are small.
+use mathlib.Core.Path.{_≡_, refl}
 use Prim.Native.Nat.{ℕ, zero, suc, _+_, _≤_, _<_}
-use mathlib.Core.Bool.{Bool, true, false, cond}
-use mathlib.Core.List.{List, [], _∷_, _++_}
+use mathlib.Core.List.{List, [], _∷_}
 use native.Mathlib.Omega.{arith}
 use lib.Dec.{eqb}
 use borrow.Author.Tests.{ne-eqb}
@@ -10,8 +9,9 @@ use lib.ListN.{length, getD}
 use Rattle.trace.specs.declared.cycle.Item.{Item}
 use Rattle.trace.specs.Items.{one, items}
 use Rattle.trace.specs.ItemLaws.{items-before-le}
-use Rattle.summary.specs.Tally.{countOf, start, startsOf, Tallied}
+use Rattle.summary.specs.Tally.{countOf, start, startsOf}
 use Rattle.summary.specs.TallyLaws.{of-code, count-le-length}
+use Rattle.summary.specs.Noting.{Tallied}
 
 start-is-one : (code : ℕ) → one (start code) ≡ one (eqb code 1) + one (eqb code 4) + one (eqb code 5) + one (eqb code 7)
 start-is-one zero = refl

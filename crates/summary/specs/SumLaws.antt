@@ -1,24 +1,19 @@
 -- Laws of the counts: the sixteen of them add up to the items of the listing.
-use mathlib.Core.Path.{_≡_, refl, ap, sym, _∙_}
-use mathlib.Core.Logic.{_⊎_, inl, inr}
-use Prim.Native.Nat.{ℕ, zero, suc, _+_, _/_, _≤_, _<_}
+use mathlib.Core.Path.{_≡_, refl, ap, _∙_}
+use Prim.Native.Nat.{ℕ, zero, suc, _+_, _≤_, _<_}
 use mathlib.Core.Bool.{Bool, true, false, cond}
 use mathlib.Core.List.{List, [], _∷_, _++_}
 use native.Mathlib.Nat.{zero-add}
 use native.Mathlib.Omega.{arith}
 use lib.Dec.{eqb}
-use lib.ListN.{length, getD}
-use borrow.Author.Tests.{eq-eqb, ne-eqb, eqb-true, eqb-false}
+use lib.ListN.{length}
+use borrow.Author.Tests.{ne-eqb, eqb-true, eqb-false}
 use Rattle.trace.specs.declared.cycle.Carried.{Carried}
 use Rattle.trace.specs.declared.cycle.Item.{Item}
 use Rattle.trace.specs.Cycle.{pst, givesOwn, carriedInto}
 use Rattle.trace.specs.Items.{one, ofValue, ofCycle, valueItem, ownItem, itemsAt, itemsBefore, items}
-use Rattle.index.specs.RangeLaws.{marker-at-most}
+use Rattle.index.specs.RangeLaws.{Bytes, marker-at-most}
 use Rattle.summary.specs.Tally.{countOf, each, perCode}
-
--- a trace of bytes
-abbrev pub Bytes : List ℕ → Type 0
-Bytes trace = (i : ℕ) → getD trace i 0 < 256
 
 -- every item's code is one of the sixteen
 abbrev pub Coded : List Item → Type 0

@@ -1,12 +1,10 @@
 -- The page (02, [2]): of each code how many items, the first cycle and the last; and the instruction starts.
-use mathlib.Core.Path.{_≡_}
 use Prim.Native.Nat.{ℕ, zero, suc, _+_}
 use mathlib.Core.Bool.{Bool, cond, _||_}
-use mathlib.Core.List.{List, [], _∷_, _++_}
+use mathlib.Core.List.{List, [], _∷_}
 use lib.Dec.{eqb}
 use Rattle.trace.specs.declared.cycle.Item.{Item}
-use Rattle.trace.specs.declared.cycle.Carried.{Carried}
-use Rattle.trace.specs.Items.{one, valueItem}
+use Rattle.trace.specs.Items.{one}
 
 -- "the number .. of items of each code"
 unfoldable pub countOf : List Item → ℕ → ℕ
@@ -39,18 +37,3 @@ each number code (suc n) = number code ∷ each number (suc code) n
 -- one number for each of the sixteen codes
 abbrev pub perCode : (ℕ → ℕ) → List ℕ
 perCode number = each number 0 16
-
--- three rows of numbers are the tally of some items
-pub record Tallied (xs : List Item) (counts firsts lasts : List ℕ) : Type 0 where
-  pub count : counts ≡ perCode (countOf xs)
-  pub first : firsts ≡ perCode (firstOf xs)
-  pub last : lasts ≡ perCode (lastOf xs)
-
--- noting some items: the tally of any items before becomes the tally of these too
-abbrev pub Notes : List Item → List ℕ → List ℕ → List ℕ → List ℕ → List ℕ → List ℕ → Type 0
-Notes xs counts firsts lasts counts′ firsts′ lasts′ = (before : List Item) → Tallied before counts firsts lasts → Tallied (before ++ xs) counts′ firsts′ lasts′
-
--- noting a value's item: whatever the value is
-abbrev pub NotesValue : ℕ → Carried → List ℕ → List ℕ → List ℕ → List ℕ → List ℕ → List ℕ → Type 0
-NotesValue i carried counts firsts lasts counts′ firsts′ lasts′ = (trace : List ℕ)
-    → Notes (valueItem trace i carried) counts firsts lasts counts′ firsts′ lasts′

@@ -11,7 +11,8 @@ use lib.Seq.{ext-getD, getD-set-same, getD-set-other}
 use borrow.Author.Tests.{eq-eqb, ne-eqb, eqb-true, eqb-false}
 use Rattle.trace.specs.declared.cycle.Item.{Item}
 use Rattle.trace.specs.Items.{one}
-use Rattle.summary.specs.Tally.{countOf, firstOf, lastOf, each, perCode, Tallied, Notes}
+use Rattle.summary.specs.Tally.{countOf, firstOf, lastOf, each, perCode}
+use Rattle.summary.specs.Noting.{Notes, Tallied}
 
 -- ---- a row of numbers, one for each code
 

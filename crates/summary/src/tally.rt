@@ -13,8 +13,7 @@ ghost use lib.ListN.{getD, set};
 ghost use Rattle.trace.specs.Items.{ownItem};
 ghost use Rattle.trace.specs.Listing.{told, reading};
 ghost use Rattle.index.specs.Entry.{entryWord};
-ghost use Rattle.summary.specs.Tally.{Tallied, Notes, NotesValue};
-ghost use Rattle.summary.specs.Index.{ReadTallied};
+ghost use Rattle.summary.specs.Noting.{Notes, NotesValue, ReadTallied, Tallied};
 
 fn first_cycle(count: u32, first: u32, cycle: u32) -> u32
     ensures { λ r. ⌜ r ≡ cond (eqb count 0) cycle first ⌝ }

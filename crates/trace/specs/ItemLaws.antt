@@ -4,7 +4,6 @@ use Prim.Native.Nat.{ℕ, zero, suc, _+_, _-_, _*_, _≤_}
 use mathlib.Core.Bool.{Bool, true, false, cond}
 use mathlib.Core.List.{List, [], _∷_, _++_}
 use native.Mathlib.Numerals.{add-one}
-use native.Mathlib.Nat.{add-zero, add-suc}
 use native.Mathlib.Omega.{arith}
 use lib.Dec.{eqb}
 use lib.ListN.{length, length-append}
@@ -21,7 +20,7 @@ pub items-counted : (trace : List ℕ) (i : ℕ) (c : Carried) (p : ℕ) → len
 unfolding itemsAt countAt
 items-counted trace i c p = simp (length-append, one-length) (omega arith)
 
-one-le : (b : Bool) → one b ≤ 1
+pub one-le : (b : Bool) → one b ≤ 1
 one-le true = omega arith
 one-le false = omega arith
 
@@ -46,11 +45,6 @@ unfolding itemsBefore
 items-before-le trace zero = omega arith
 items-before-le trace (suc i) = omega (arith, items-next trace i, items-before-le trace i, count-le (carriedInto trace i) (pst trace i))
 
--- later cycles take no item away
-pub items-grow : (trace : List ℕ) (i d : ℕ) → length (itemsBefore trace i) ≤ length (itemsBefore trace (i + d))
-items-grow trace i zero = rw (add-zero i) (omega arith)
-items-grow trace i (suc d) = rw (add-suc i d) (omega (arith, items-next trace (i + d), items-grow trace i d))
-
 pub words-append : (xs ys : List Item) → words (xs ++ ys) ≡ words xs ++ words ys
 words-append [] ys = refl
 words-append (x ∷ xs) ys = rw (words-append xs ys)
@@ -69,16 +63,3 @@ words-at trace i c p = words-append (valueItem trace i c) (ownItem i (c .run) p)
 pub items-more : (trace : List ℕ) (i : ℕ) (c : Carried) → c ≡ carriedInto trace i → itemsBefore trace (i + 1) ≡ itemsBefore trace i ++ itemsAt trace i c (pst trace i)
 unfolding itemsBefore
 items-more trace i c e = rw (add-one i, e)
-
-pub words-next : (trace : List ℕ) (i : ℕ) (c : Carried) → c ≡ carriedInto trace i
-    → words (itemsBefore trace (i + 1)) ≡ words (itemsBefore trace i) ++ words (itemsAt trace i c (pst trace i))
-words-next trace i c e = ap words (items-more trace i c e) ∙ words-append (itemsBefore trace i) (itemsAt trace i c (pst trace i))
-
--- the words of some cycles fit where those of all do
-pub words-fit : (trace : List ℕ) (i room : ℕ) → i ≤ length trace → length (words (items trace)) ≤ room → length (words (itemsBefore trace i)) ≤ room
-unfolding items
-words-fit trace i room h f =
-    omega (arith, length-words (itemsBefore trace i), length-words (itemsBefore trace (length trace)), rw e at (items-grow trace i (length trace - i)))
-  where
-    e : i + (length trace - i) ≡ length trace
-    e = omega arith

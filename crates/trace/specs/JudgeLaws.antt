@@ -107,10 +107,6 @@ pub refused-from : (trace : List ℕ) (i : ℕ) (c : Carried) (room k j : ℕ) �
 unfolding readingFrom listingFrom
 refused-from trace i c room k j = gate-refused (judged-gate trace i c) (length (itemsToEnd trace i c)) k j _
 
-pub refused-so : (trace : List ℕ) (room k i : ℕ) → reading trace ≡ refusal k i → listing trace room ≡ refusal k i
-unfolding reading listing judged
-refused-so trace room k i = gate-refused (judged-gate trace 0 nothing) (length (items trace)) k i _
-
 -- a trace that is read has the items that are counted, and only the buffer is left to judge
 pub read-from : (trace : List ℕ) (i : ℕ) (c : Carried) (room n : ℕ) → readingFrom trace i c ≡ counted n
     → (n ≡ length (itemsToEnd trace i c)) × (listingFrom trace i c room ≡ tooShort (itemsToEnd trace i c) room (counted (length (itemsToEnd trace i c))))
@@ -121,6 +117,15 @@ pub read-so : (trace : List ℕ) (room n : ℕ) → reading trace ≡ counted n
     → (n ≡ length (items trace)) × (listing trace room ≡ tooShort (items trace) room (counted (length (items trace))))
 unfolding reading listing judged
 read-so trace room n e = let g = gate-read (judged-gate trace 0 nothing) (length (items trace)) n e in (g .0, g .1 _)
+
+-- what is counted is what was judged last
+pub passed-so : (trace : List ℕ) (n : ℕ) (t : Told) → judged trace t ≡ counted n → t ≡ counted n
+unfolding judged
+passed-so trace n t = by-gate (judged-gate trace 0 nothing)
+  where
+    by-gate : Gate (judgedFrom trace 0 nothing) → judgedFrom trace 0 nothing t ≡ counted n → t ≡ counted n
+    by-gate (passes p) e = sym (p t) ∙ e
+    by-gate (stops k i p) e = let z : _≡_ {A = ℕ} 0 1 = cc (p t) in absurd (omega arith)
 
 -- a trace that is listed is one that is read
 pub listed-read : (trace : List ℕ) (room n : ℕ) → listing trace room ≡ counted n → reading trace ≡ counted n

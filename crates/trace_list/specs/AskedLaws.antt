@@ -1,13 +1,12 @@
 -- Laws of FROM's word: one byte after the other.
-use mathlib.Core.Path.{_≡_, refl, ap, sym, _∙_}
-use Prim.Native.Nat.{ℕ, suc, _+_, _-_, _*_, _≤_, _<_}
+use mathlib.Core.Path.{_≡_, refl, ap, _∙_}
+use Prim.Native.Nat.{ℕ, _+_, _-_, _*_, _≤_, _<_}
 use mathlib.Core.List.{List, [], _∷_}
 use native.Mathlib.Numerals.{add-one}
 use native.Mathlib.Omega.{arith}
 use lib.ListN.{length, getD, drop, drop-of-length-le}
 use lib.Seq.{drop-cons}
 use borrow.Author.Tests.{lt-ltb, le-ltb}
-use Rattle.trace_list.specs.declared.asked.Asked.{Asked}
 use Rattle.trace_list.specs.declared.asked.Asked.the-variants.{From, Unclear}
 use Rattle.trace_list.specs.Asked.{decimal, multiple, fromOf}
 

@@ -1,23 +1,14 @@
 -- What programs in other languages are answered of a page (02, [2]): one number, and what is left in the lent places.
-use Prim.Native.Nat.{ℕ, _+_, _*_, _%_, _^_}
+use Prim.Native.Nat.{ℕ}
 use mathlib.Core.Path.{_≡_}
-use mathlib.Core.Bool.{cond}
 use mathlib.Core.List.{List}
 use lib.ListN.{length}
-use lib.Ieee.{binary64, isNan, toBits}
-use Rattle.rate.specs.declared.Rate.{Rate}
-use Rattle.rate.specs.declared.Rate.the-variants.{NothingStarted, Average}
-use Rattle.rate.specs.Rate.{rateOf}
+use Rattle.rate.specs.Rate.{rateOf, rateBits}
 use Rattle.trace.specs.Items.{items}
 use Rattle.trace.specs.Listing.{Told, refusal, counted}
 use Rattle.summary.specs.Tally.{countOf, firstOf, lastOf, startsOf, perCode}
-use Rattle.summary.specs.Page.{summary, indexAfter}
+use Rattle.summary.specs.Page.{pageVerdict, indexAfter}
 use Rattle.yarkovesh.specs.Exported.{listingNumber}
-
--- the rate's bits; 0 where there is none, which no rate has
-abbrev pub rateBits : Rate → ℕ
-rateBits NothingStarted = 0
-rateBits (Average rate) = cond (isNan rate) 0 (toBits binary64 rate)
 
 -- what is lent for the page's numbers
 pub record Numbers : Type 0 where
@@ -42,6 +33,6 @@ numbersAfter trace before (counted n) = numbersOf trace
 
 -- the promise of a page
 pub record PageNumbersMeet (trace before : List ℕ) (r : ℕ) (after : List ℕ) (given left : Numbers) : Type 0 where
-  pub answer : r ≡ listingNumber (summary trace (length before))
-  pub index : after ≡ indexAfter trace before (summary trace (length before))
-  pub numbers : left ≡ numbersAfter trace given (summary trace (length before))
+  pub answer : r ≡ listingNumber (pageVerdict trace (length before))
+  pub index : after ≡ indexAfter trace before (pageVerdict trace (length before))
+  pub numbers : left ≡ numbersAfter trace given (pageVerdict trace (length before))

@@ -1,15 +1,15 @@
 -- Laws of what programs in other languages are answered of a page: from the page's own promise, and that no second answer fits.
-use mathlib.Core.Path.{_≡_, refl, ap, sym, _∙_}
+use mathlib.Core.Path.{_≡_, ap, sym, _∙_}
 use Prim.Native.Nat.{ℕ}
 use mathlib.Core.List.{List}
-use lib.ListN.{length}
 use Rattle.grounds.specs.declared.Ground.{Ground}
 use Rattle.trace.specs.declared.listing.Listing.the-variants.{Items, Refused}
 use Rattle.trace.specs.Listing.{told}
+use Rattle.rate.specs.Rate.{rateBits}
 use Rattle.summary.specs.declared.page.Page.{Page}
-use Rattle.summary.specs.Page.{pageBy, summary, PageMeets}
+use Rattle.summary.specs.Page.{pageBy, PageMeets}
 use Rattle.yarkovesh.specs.Exported.{listingNumber}
-use Rattle.yarkovesh.specs.ExportedPage.{rateBits, Numbers, rows, numbersAfter, PageNumbersMeet}
+use Rattle.yarkovesh.specs.ExportedPage.{Numbers, rows, numbersAfter, PageNumbersMeet}
 
 module _ {trace before after : List ℕ} {page : Page} (given : Numbers) (met : PageMeets trace before page after) where
   pub refused-keeps-numbers : {ground : Ground} {cycle : ℕ} → page .judged ≡ Refused ground cycle

@@ -1,10 +1,9 @@
 // For programs in other languages: a run of packets on a fresh board, the listing of a trace, and its page. `rt staticlib yarkovesh` writes the archive.
 ghost use mathlib.Core.Path.{_≡_};
 ghost use Rattle.yarkovesh.specs.Exported.{verdictNumber, listingNumber, FreshRunMeets, ListMeets};
-ghost use Rattle.yarkovesh.specs.ExportedPage.{rateBits, rows, PageNumbersMeet};
+ghost use Rattle.yarkovesh.specs.ExportedPage.{rows, PageNumbersMeet};
 ghost use Rattle.trace.specs.Listing.{told};
 use grounds::Verdict;
-use rate::Rate;
 use summary::page;
 use trace::listing;
 use trace::listing::Listing;
@@ -62,15 +61,6 @@ pub extern "C" fn yarkovesh_list(trace: &[u8], words: &mut [u32]) -> u64
     listing_number(listed)
 }
 
-fn bits_of(rate: Rate) -> u64
-    ensures { λ r. ⌜ r ≡ rateBits rate ⌝ }
-{
-    match rate {
-        Rate::NothingStarted => 0,
-        Rate::Average(average) => rate::bits_of(average),
-    }
-}
-
 // The page of a trace: as the listing answers, how many items or the refusal. Of each of the sixteen codes how many items, the first
 // cycle and the last; the instruction starts; and the bits of the rate, 0 where nothing started.
 #[no_mangle]
@@ -103,7 +93,7 @@ pub extern "C" fn yarkovesh_page(
             *firsts = page_firsts;
             *lasts = page_lasts;
             *starts = page.starts;
-            *rate = bits_of(page_rate);
+            *rate = rate::bits_of(page_rate);
             listing_number(judged)
         }
     }

@@ -6,63 +6,44 @@ use Prim.Native.Nat.{_+_, _/_}
 use borrow.Author.Needs.{needs}
 use Rattle.page.proofs.put_lines.Statement.{statement}
 use Rattle.page.proofs.put_lines.Tie as tie
-use Rattle.page.proofs.put_lines.Reads as reads
-use Rattle.page.proofs.put_lines.Lts as lts
-use Rattle.page.proofs.lines.put_codes.Reads as put-codes-reads
-use Rattle.page.proofs.lines.put_head.Reads as put-head-reads
-use Rattle.page.proofs.lines.put_index.Reads as put-index-reads
-use Rattle.page.proofs.lines.put_rate.Reads as put-rate-reads
 
--- src/main.rt:12:39
 cast-put-head : tie.Need-cast-put-head
 cast-put-head c = search needs
 
--- src/main.rt:12:68
 cast-put-head-2 : tie.Need-cast-put-head-2
 cast-put-head-2 c = search needs
 
--- src/main.rt:12:9
 put-head-requires : tie.Need-put-head-requires
 put-head-requires c κs = search needs
 
--- src/main.rt:14:9
 put-rate-requires : tie.Need-put-rate-requires
 put-rate-requires c κs = search needs
 
--- src/main.rt:15:9
 put-codes-requires : tie.Need-put-codes-requires
 put-codes-requires c κs = search needs
 
--- src/main.rt:16:20
 cast-entries : tie.Need-cast-entries
 cast-entries c = search needs
 
--- src/main.rt:16:20
 add-entries : tie.Need-add-entries
 add-entries c = search needs
 
--- src/main.rt:18:43
 slice-aggregate-put-index : tie.Need-slice-aggregate-put-index
 slice-aggregate-put-index c = sym (length-take-le _ _ (search needs))
 
--- src/main.rt:18:9
 put-index-requires : tie.Need-put-index-requires
 put-index-requires c κs = let a = c .before .before .before .before .before .before .before .before .before .before .before .before .before .before .before .before .before .before .before .before .args in
     omega (arith, length-take-le ((a .page .cycles + 255) / 256) (a .index .now) (search needs))
 
--- src/main.rt:18:9
 same-length : tie.Need-same-length
 same-length c = search needs
 
--- src/main.rt:18:9
 returns : tie.Need-returns
 returns c = search needs
 
--- src/main.rt:11:1
 same-length-2 : tie.Need-same-length-2
 same-length-2 c = search needs
 
--- src/main.rt:11:1
 returns-2 : tie.Need-returns-2
 returns-2 c = search needs
 

@@ -1,20 +1,21 @@
-use Rattle.rate.specs.RateLaws.{differs-is-nan}
+use borrow.Author.Needs.{needs}
 use Rattle.rate.proofs.bits_of.Statement.{statement}
 use Rattle.rate.proofs.bits_of.Tie as tie
-use Rattle.rate.proofs.bits_of.Reads as reads
-use Rattle.rate.proofs.bits_of.Lts as lts
 
--- src/lib.rt:28:9
+enum-told : tie.Need-enum-told
+enum-told c = search needs
+
+enum-known-rate : tie.Need-enum-known-rate
+enum-known-rate c = search needs
+
+pattern-of-requires : tie.Need-pattern-of-requires
+pattern-of-requires c κs = search needs
+
 returns : tie.Need-returns
-returns c = rw (differs-is-nan _ _ (c .if1 .taken))
+returns c = search needs
 
--- src/lib.rt:30:5
-float-to-bits-result : tie.Need-float-to-bits-result
-float-to-bits-result c = rw (differs-is-nan _ _ (c .if1 .left)) tt
-
--- src/lib.rt:24:1
 returns-2 : tie.Need-returns-2
-returns-2 c = rw (differs-is-nan _ _ (c .if1 .left))
+returns-2 c = rw (c .before .before .rate .given .1) (c .pattern-of .ensures)
 
 pub bits-of-spec : {M : Type 1} → statement M
-bits-of-spec = tie.close (tie.spec returns float-to-bits-result returns-2)
+bits-of-spec = tie.close (tie.spec enum-told enum-known-rate pattern-of-requires returns returns-2)

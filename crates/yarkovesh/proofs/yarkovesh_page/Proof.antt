@@ -2,50 +2,35 @@ use Rattle.yarkovesh.specs.ExportedPageLaws.{refused-keeps-numbers, read
 use borrow.Author.Needs.{needs}
 use Rattle.yarkovesh.proofs.yarkovesh_page.Statement.{statement}
 use Rattle.yarkovesh.proofs.yarkovesh_page.Tie as tie
-use Rattle.yarkovesh.proofs.yarkovesh_page.Reads as reads
-use Rattle.yarkovesh.proofs.yarkovesh_page.Lts as lts
-use Rattle.summary.proofs.page.make_page.Reads as make-page-reads
-use Rattle.yarkovesh.proofs.bits_of.Reads as bits-of-reads
-use Rattle.yarkovesh.proofs.listing_number.Reads as listing-number-reads
 
--- src/lib.rt:88:9
 make-page-requires : tie.Need-make-page-requires
 make-page-requires c κs = search needs
 
--- src/lib.rt:94:14
 enum-told : tie.Need-enum-told
 enum-told c = search needs
 
--- src/lib.rt:94:14
 listing-number-requires : tie.Need-listing-number-requires
 listing-number-requires c κs = search needs
 
--- src/lib.rt:96:17
 enum-told-2 : tie.Need-enum-told-2
 enum-told-2 c = search needs
 
--- src/lib.rt:104:21
 bits-of-requires : tie.Need-bits-of-requires
 bits-of-requires c κs = search needs
 
--- src/lib.rt:105:13
 listing-number-requires-2 : tie.Need-listing-number-requires-2
 listing-number-requires-2 c κs = search needs
 
--- src/lib.rt:76:1
 same-length : tie.Need-same-length
 same-length c = search needs
 
--- src/lib.rt:76:1
 returns : tie.Need-returns
 returns c = rw (c .listing-number .ensures)
     (refused-keeps-numbers _ (c .before .before .before .before .before .make-page .ensures) (c .before .enum-told .given .1))
 
--- src/lib.rt:76:1
 same-length-2 : tie.Need-same-length-2
 same-length-2 c = search needs
 
--- src/lib.rt:76:1
 returns-2 : tie.Need-returns-2
 returns-2 c = rw (c .listing-number2 .ensures, c .before .bits-of .ensures)
     (read-gives-numbers _ (c .before .before .before .before .before .before .before .before .before .make-page .ensures)

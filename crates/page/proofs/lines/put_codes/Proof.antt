@@ -4,9 +4,6 @@ use lib.ListN.{length}
 use mathlib.Core.Path.{_≡_}
 use Rattle.page.proofs.lines.put_codes.Statement.{statement}
 use Rattle.page.proofs.lines.put_codes.Tie as tie
-use Rattle.page.proofs.lines.put_codes.Reads as reads
-use Rattle.page.proofs.lines.put_codes.Lts as lts
-use Rattle.page.proofs.lines.put_code.Reads as put-code-reads
 
 abbrev Inv-loop : tie.InvT-loop
 Inv-loop text₀ from counts firsts lasts at₀ code₀ text at code = (code ≤ 16) × (length text ≡ length text₀)
@@ -14,55 +11,42 @@ Inv-loop text₀ from counts firsts lasts at₀ code₀ text at code = (code ≤
 abbrev μ-loop : tie.MeasureT-loop
 μ-loop text₀ from counts firsts lasts at₀ code₀ text at code = 16 - code
 
--- src/lines.rt:70:5
 loop-holds : tie.Need-loop-holds Inv-loop μ-loop
 loop-holds c = search needs
 
--- src/lines.rt:71:39
 mul-put-code : tie.Need-mul-put-code Inv-loop μ-loop
 mul-put-code c = search needs
 
--- src/lines.rt:71:39
 array-read-put-code : tie.Need-array-read-put-code Inv-loop μ-loop
 array-read-put-code c = search needs
 
--- src/lines.rt:71:53
 mul-put-code-2 : tie.Need-mul-put-code-2 Inv-loop μ-loop
 mul-put-code-2 c = search needs
 
--- src/lines.rt:71:53
 array-read-put-code-2 : tie.Need-array-read-put-code-2 Inv-loop μ-loop
 array-read-put-code-2 c = search needs
 
--- src/lines.rt:71:67
 mul-put-code-3 : tie.Need-mul-put-code-3 Inv-loop μ-loop
 mul-put-code-3 c = search needs
 
--- src/lines.rt:71:67
 array-read-put-code-3 : tie.Need-array-read-put-code-3 Inv-loop μ-loop
 array-read-put-code-3 c = search needs
 
--- src/lines.rt:71:9
 put-code-requires : tie.Need-put-code-requires Inv-loop μ-loop
 put-code-requires c κs = search needs
 
--- src/lines.rt:72:9
 add-code : tie.Need-add-code Inv-loop μ-loop
 add-code c = search needs
 
--- src/lines.rt:70:5
 loop-less : tie.Need-loop-less Inv-loop μ-loop
 loop-less c = search needs
 
--- src/lines.rt:70:5
 loop-again : tie.Need-loop-again Inv-loop μ-loop
 loop-again c = search needs
 
--- src/lines.rt:64:1
 same-length : tie.Need-same-length Inv-loop μ-loop
 same-length c = search needs
 
--- src/lines.rt:64:1
 returns : tie.Need-returns Inv-loop μ-loop
 returns c = search needs
 

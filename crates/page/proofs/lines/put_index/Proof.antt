@@ -4,10 +4,6 @@ use lib.ListN.{length}
 use mathlib.Core.Path.{_≡_}
 use Rattle.page.proofs.lines.put_index.Statement.{statement}
 use Rattle.page.proofs.lines.put_index.Tie as tie
-use Rattle.page.proofs.lines.put_index.Reads as reads
-use Rattle.page.proofs.lines.put_index.Lts as lts
-use Rattle.index.proofs.read_entry.Reads as read-entry-reads
-use Rattle.page.proofs.lines.put_entry.Reads as put-entry-reads
 
 abbrev Inv-loop : tie.InvT-loop
 Inv-loop text₀ from index at₀ k₀ text at k = (k ≤ length index) × (length text ≡ length text₀)
@@ -15,47 +11,36 @@ Inv-loop text₀ from index at₀ k₀ text at k = (k ≤ length index) × (leng
 abbrev μ-loop : tie.MeasureT-loop
 μ-loop text₀ from index at₀ k₀ text at k = length index - k
 
--- src/lines.rt:105:5
 loop-holds : tie.Need-loop-holds Inv-loop μ-loop
 loop-holds c = search needs
 
--- src/lines.rt:106:39
 mul-read-entry : tie.Need-mul-read-entry Inv-loop μ-loop
 mul-read-entry c = search needs
 
--- src/lines.rt:106:48
 mul-read-entry-2 : tie.Need-mul-read-entry-2 Inv-loop μ-loop
 mul-read-entry-2 c = search needs
 
--- src/lines.rt:106:48
 shared-slice-read-read-entry : tie.Need-shared-slice-read-read-entry Inv-loop μ-loop
 shared-slice-read-read-entry c = search needs
 
--- src/lines.rt:106:13
 read-entry-requires : tie.Need-read-entry-requires Inv-loop μ-loop
 read-entry-requires c κs = search needs
 
--- src/lines.rt:107:9
 put-entry-requires : tie.Need-put-entry-requires Inv-loop μ-loop
 put-entry-requires c κs = search needs
 
--- src/lines.rt:108:9
 add-k : tie.Need-add-k Inv-loop μ-loop
 add-k c = search needs
 
--- src/lines.rt:105:5
 loop-less : tie.Need-loop-less Inv-loop μ-loop
 loop-less c = search needs
 
--- src/lines.rt:105:5
 loop-again : tie.Need-loop-again Inv-loop μ-loop
 loop-again c = search needs
 
--- src/lines.rt:102:1
 same-length : tie.Need-same-length Inv-loop μ-loop
 same-length c = search needs
 
--- src/lines.rt:102:1
 returns : tie.Need-returns Inv-loop μ-loop
 returns c = search needs
 

@@ -7,8 +7,6 @@ use Rattle.summary.specs.ReadLaws.{copied-next}
 use borrow.Author.Needs.{needs}
 use Rattle.summary.proofs.page.copy_entries.Statement.{statement}
 use Rattle.summary.proofs.page.copy_entries.Tie as tie
-use Rattle.summary.proofs.page.copy_entries.Reads as reads
-use Rattle.summary.proofs.page.copy_entries.Lts as lts
 
 abbrev Inv-loop : tie.InvT-loop
 Inv-loop index₀ entries n k₀ index k = (k ≤ n) × (length index ≡ length index₀) × (index ≡ paste index₀ 0 entries k)
@@ -16,45 +14,35 @@ Inv-loop index₀ entries n k₀ index k = (k ≤ n) × (length index ≡ length
 abbrev μ-loop : tie.MeasureT-loop
 μ-loop index₀ entries n k₀ index k = n - k
 
--- src/page.rt:44:5
 loop-holds : tie.Need-loop-holds Inv-loop μ-loop
 loop-holds c = (search needs, refl, paste-zero _ 0 (c .args .entries .now))
 
--- src/page.rt:45:20
 mul-index : tie.Need-mul-index Inv-loop μ-loop
 mul-index c = search needs
 
--- src/page.rt:45:20
 shared-slice-read-index : tie.Need-shared-slice-read-index Inv-loop μ-loop
 shared-slice-read-index c = search needs
 
--- src/page.rt:45:9
 mul-index-2 : tie.Need-mul-index-2 Inv-loop μ-loop
 mul-index-2 c = search needs
 
--- src/page.rt:45:9
 slice-write-index : tie.Need-slice-write-index Inv-loop μ-loop
 slice-write-index c = search needs
 
--- src/page.rt:46:9
 add-k : tie.Need-add-k Inv-loop μ-loop
 add-k c = search needs
 
--- src/page.rt:44:5
 loop-less : tie.Need-loop-less Inv-loop μ-loop
 loop-less c = search needs
 
--- src/page.rt:44:5
 loop-again : tie.Need-loop-again Inv-loop μ-loop
 loop-again c = let w = c .before .before .loop in
     let a = c .before .before .before .args in
     (search needs, search needs, rw (w .inv .2) (copied-next (a .index .now) (a .entries .now) (w .k) (search needs) (search needs)))
 
--- src/page.rt:39:1
 same-length : tie.Need-same-length Inv-loop μ-loop
 same-length c = search needs
 
--- src/page.rt:39:1
 returns : tie.Need-returns Inv-loop μ-loop
 returns c = let w = c .before .loop in
     let e : w .k ≡ c .before .before .args .n = omega arith in

@@ -16,38 +16,25 @@ use Rattle.summary.specs.PageLaws.{page-refused, page-short, page-read}
 use borrow.Author.Needs.{needs}
 use Rattle.summary.proofs.page.make_page.Statement.{statement}
 use Rattle.summary.proofs.page.make_page.Tie as tie
-use Rattle.summary.proofs.page.make_page.Reads as reads
-use Rattle.summary.proofs.page.make_page.Lts as lts
-use Rattle.rate.proofs.rate_of.Reads as rate-of-reads
-use Rattle.summary.proofs.page.copy_entries.Reads as copy-entries-reads
-use Rattle.summary.proofs.page.refuse.Reads as refuse-reads
-use Rattle.summary.proofs.tally.tally_trace.Reads as tally-trace-reads
 
--- src/page.rt:59:9
 tally-trace-requires : tie.Need-tally-trace-requires
 tally-trace-requires c κs = nothing-noted
 
--- src/page.rt:61:28
 enum-known-judged : tie.Need-enum-known-judged
 enum-known-judged c = search needs
 
--- src/page.rt:61:47
 refuse-requires : tie.Need-refuse-requires
 refuse-requires c κs = search needs
 
--- src/page.rt:62:24
 enum-known-judged-2 : tie.Need-enum-known-judged-2
 enum-known-judged-2 c = search needs
 
--- src/page.rt:63:27
 add-needed : tie.Need-add-needed
 add-needed c = search needs
 
--- src/page.rt:65:17
 refuse-requires-2 : tie.Need-refuse-requires-2
 refuse-requires-2 c κs = search needs
 
--- src/page.rt:65:17
 returns : tie.Need-returns
 returns c = page-short _ _ _ _ (sym (c .before .before .before .before .before .tally-trace .ensures .0)
     ∙ ap told (c .before .before .before .judged2 .given .1)) (omega arith) (c .refuse2 .ensures)
@@ -59,7 +46,6 @@ slice-aggregate-copy-entries c = let t = rw (c .before .before .before .before .
     (c .before .before .before .before .before .before .before .before .before .before .before .before .before .args .trace .now)) 0 (t .1)
     ∙ length-replicate {A = ℕ} 256 0)
 
--- src/page.rt:67:13
 copy-entries-requires : tie.Need-copy-entries-requires
 copy-entries-requires c κs = let e = sym (c .before .before .before .before .before .before .tally-trace .ensures .0)
     ∙ ap told (c .before .before .before .before .judged2 .given .1) in
@@ -76,21 +62,17 @@ copy-entries-requires c κs = let e = sym (c .before .before .before .before .be
       ),
     )
 
--- src/page.rt:68:26
 cast-cycles : tie.Need-cast-cycles
 cast-cycles c = let e = sym (c .before .before .before .before .before .before .before .before .before .tally-trace .ensures .0)
     ∙ ap told (c .before .before .before .before .before .before .before .judged2 .given .1) in
     omega (arith, read-short _ 0 nothing _ (reading-whole _ ∙ e))
 
--- src/page.rt:69:26
 array-read-starts : tie.Need-array-read-starts
 array-read-starts c = search needs
 
--- src/page.rt:69:38
 array-read-starts-2 : tie.Need-array-read-starts-2
 array-read-starts-2 c = search needs
 
--- src/page.rt:69:26
 add-starts : tie.Need-add-starts
 add-starts c = let e = sym (c .before .before .before .before .before .before .before .before .before .tally-trace .ensures .0)
     ∙ ap told (c .before .before .before .before .before .before .before .judged2 .given .1) in
@@ -100,11 +82,9 @@ add-starts c = let e = sym (c .before .before .before .before .before .before .b
     let k = read-short trace 0 nothing _ (reading-whole trace ∙ e) in
     omega (arith, four-small trace k t)
 
--- src/page.rt:69:50
 array-read-starts-3 : tie.Need-array-read-starts-3
 array-read-starts-3 c = search needs
 
--- src/page.rt:69:26
 add-starts-2 : tie.Need-add-starts-2
 add-starts-2 c = let e = sym (c .before .before .before .before .before .before .before .before .before .tally-trace .ensures .0)
     ∙ ap told (c .before .before .before .before .before .before .before .judged2 .given .1) in
@@ -114,11 +94,9 @@ add-starts-2 c = let e = sym (c .before .before .before .before .before .before 
     let k = read-short trace 0 nothing _ (reading-whole trace ∙ e) in
     omega (arith, four-small trace k t)
 
--- src/page.rt:69:62
 array-read-starts-4 : tie.Need-array-read-starts-4
 array-read-starts-4 c = search needs
 
--- src/page.rt:69:26
 add-starts-3 : tie.Need-add-starts-3
 add-starts-3 c = let e = sym (c .before .before .before .before .before .before .before .before .before .tally-trace .ensures .0)
     ∙ ap told (c .before .before .before .before .before .before .before .judged2 .given .1) in
@@ -128,20 +106,16 @@ add-starts-3 c = let e = sym (c .before .before .before .before .before .before 
     let k = read-short trace 0 nothing _ (reading-whole trace ∙ e) in
     omega (arith, four-small trace k t)
 
--- src/page.rt:70:17
 rate-of-requires : tie.Need-rate-of-requires
 rate-of-requires c κs = search needs
 
--- src/page.rt:52:1
 returns-2 : tie.Need-returns-2
 returns-2 c = page-refused _ _ _ _ _ (sym (c .before .before .before .before .tally-trace .ensures .0) ∙ ap told (c .before .before .judged .given .1))
     (c .refuse .ensures)
 
--- src/page.rt:52:1
 same-length : tie.Need-same-length
 same-length c = search needs
 
--- src/page.rt:52:1
 returns-3 : tie.Need-returns-3
 returns-3 c = let e = sym (c .before .before .before .before .before .before .before .before .before .before .tally-trace .ensures .0)
     ∙ ap told (c .before .before .before .before .before .before .before .before .judged2 .given .1) in

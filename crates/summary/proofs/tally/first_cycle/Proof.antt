@@ -1,14 +1,10 @@
 use borrow.Author.Tests.{eq-eqb, ne-eqb}
 use Rattle.summary.proofs.tally.first_cycle.Statement.{statement}
 use Rattle.summary.proofs.tally.first_cycle.Tie as tie
-use Rattle.summary.proofs.tally.first_cycle.Reads as reads
-use Rattle.summary.proofs.tally.first_cycle.Lts as lts
 
--- src/tally.rt:17:1
 returns : tie.Need-returns
 returns c = rw (eq-eqb _ _ (c .if1 .taken))
 
--- src/tally.rt:17:1
 returns-2 : tie.Need-returns-2
 returns-2 c = rw (ne-eqb _ _ (c .if1 .left))
 

@@ -2,67 +2,49 @@ use mathlib.Core.Path.{refl}
 use borrow.Author.Needs.{needs}
 use Rattle.summary.proofs.tally.note_item.Statement.{statement}
 use Rattle.summary.proofs.tally.note_item.Tie as tie
-use Rattle.summary.proofs.tally.note_item.Reads as reads
-use Rattle.summary.proofs.tally.note_item.Lts as lts
-use Rattle.summary.proofs.tally.first_cycle.Reads as first-cycle-reads
 
--- src/tally.rt:34:32
 mul-first-cycle : tie.Need-mul-first-cycle
 mul-first-cycle c = search needs
 
--- src/tally.rt:34:32
 element-copy-out-first-cycle : tie.Need-element-copy-out-first-cycle
 element-copy-out-first-cycle c = search needs
 
--- src/tally.rt:34:46
 mul-first-cycle-2 : tie.Need-mul-first-cycle-2
 mul-first-cycle-2 c = search needs
 
--- src/tally.rt:34:46
 element-copy-out-first-cycle-2 : tie.Need-element-copy-out-first-cycle-2
 element-copy-out-first-cycle-2 c = search needs
 
--- src/tally.rt:34:20
 first-cycle-requires : tie.Need-first-cycle-requires
 first-cycle-requires c κs = search needs
 
--- src/tally.rt:34:5
 mul-firsts : tie.Need-mul-firsts
 mul-firsts c = search needs
 
--- src/tally.rt:34:5
 element-write-firsts : tie.Need-element-write-firsts
 element-write-firsts c = search needs
 
--- src/tally.rt:35:5
 mul-lasts : tie.Need-mul-lasts
 mul-lasts c = search needs
 
--- src/tally.rt:35:5
 element-write-lasts : tie.Need-element-write-lasts
 element-write-lasts c = search needs
 
--- src/tally.rt:36:20
 mul-counts : tie.Need-mul-counts
 mul-counts c = search needs
 
--- src/tally.rt:36:20
 element-copy-out-counts : tie.Need-element-copy-out-counts
 element-copy-out-counts c = search needs
 
--- src/tally.rt:36:20
 add-counts : tie.Need-add-counts
 add-counts c = search needs
 
--- src/tally.rt:36:5
 mul-counts-2 : tie.Need-mul-counts-2
 mul-counts-2 c = search needs
 
--- src/tally.rt:36:5
 element-write-counts : tie.Need-element-write-counts
 element-write-counts c = search needs
 
--- src/tally.rt:24:1
 returns : tie.Need-returns
 returns c = (refl, rw (c .before .first-cycle .ensures), refl)
 

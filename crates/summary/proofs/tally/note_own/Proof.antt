@@ -4,30 +4,21 @@ use Rattle.summary.specs.TallyLaws.{note-one, note-none}
 use borrow.Author.Needs.{needs}
 use Rattle.summary.proofs.tally.note_own.Statement.{statement}
 use Rattle.summary.proofs.tally.note_own.Tie as tie
-use Rattle.summary.proofs.tally.note_own.Reads as reads
-use Rattle.summary.proofs.tally.note_own.Lts as lts
-use Rattle.summary.proofs.tally.note_item.Reads as note-item-reads
-use Rattle.trace.proofs.cycle.gives_own.Reads as gives-own-reads
 
--- src/tally.rt:67:8
 gives-own-requires : tie.Need-gives-own-requires
 gives-own-requires c κs = search needs
 
--- src/tally.rt:68:56
 cast-note-item : tie.Need-cast-note-item
 cast-note-item c = search needs
 
--- src/tally.rt:68:9
 note-item-requires : tie.Need-note-item-requires
 note-item-requires c κs = search needs
 
--- src/tally.rt:56:1
 returns : tie.Need-returns
 returns c = let a = c .before .before .before .before .before .before in
     rw (sym (c .before .before .before .before .before .gives-own .ensures) ∙ c .before .before .before .before .if1 .taken)
     (note-one (ofCycle (a .args .i) (a .args .pst)) (a .pre .1) (c .note-item .ensures))
 
--- src/tally.rt:56:1
 returns-2 : tie.Need-returns-2
 returns-2 c = rw (sym (c .before .gives-own .ensures) ∙ c .if1 .left) note-none
 

@@ -4,29 +4,21 @@ use Rattle.summary.specs.TallyLaws.{note-one, note-none}
 use borrow.Author.Needs.{needs}
 use Rattle.summary.proofs.tally.note_value.Statement.{statement}
 use Rattle.summary.proofs.tally.note_value.Tie as tie
-use Rattle.summary.proofs.tally.note_value.Reads as reads
-use Rattle.summary.proofs.tally.note_value.Lts as lts
-use Rattle.summary.proofs.tally.note_item.Reads as note-item-reads
 
--- src/tally.rt:51:42
 cast-note-item : tie.Need-cast-note-item
 cast-note-item c = search needs
 
--- src/tally.rt:51:67
 cast-note-item-2 : tie.Need-cast-note-item-2
 cast-note-item-2 c = search needs
 
--- src/tally.rt:51:9
 note-item-requires : tie.Need-note-item-requires
 note-item-requires c κs = search needs
 
--- src/tally.rt:40:1
 returns : tie.Need-returns
 returns c = let a = c .before .before .before .before .before .before .before in
     λ trace. rw (eq-eqb _ _ (c .before .before .before .before .before .if1 .taken))
     (note-one (ofValue trace (a .args .i) (a .args .carried .marker)) (a .pre .1) (c .note-item .ensures))
 
--- src/tally.rt:40:1
 returns-2 : tie.Need-returns-2
 returns-2 c = λ trace. rw (ne-eqb _ _ (c .if1 .left)) note-none
 

@@ -2,62 +2,46 @@ use borrow.Author.Tests.{eq-eqb, ne-eqb}
 use borrow.Author.Needs.{needs}
 use Rattle.summary.proofs.tally.put_entry.Statement.{statement}
 use Rattle.summary.proofs.tally.put_entry.Tie as tie
-use Rattle.summary.proofs.tally.put_entry.Reads as reads
-use Rattle.summary.proofs.tally.put_entry.Lts as lts
 
--- src/tally.rt:80:29
 cast-entries : tie.Need-cast-entries
 cast-entries c = search needs
 
--- src/tally.rt:80:28
 mul-entries : tie.Need-mul-entries
 mul-entries c = search needs
 
--- src/tally.rt:81:16
 cast-entries-2 : tie.Need-cast-entries-2
 cast-entries-2 c = search needs
 
--- src/tally.rt:81:15
 mul-entries-2 : tie.Need-mul-entries-2
 mul-entries-2 c = search needs
 
--- src/tally.rt:80:28
 add-entries : tie.Need-add-entries
 add-entries c = search needs
 
--- src/tally.rt:82:16
 cast-entries-3 : tie.Need-cast-entries-3
 cast-entries-3 c = search needs
 
--- src/tally.rt:82:15
 mul-entries-3 : tie.Need-mul-entries-3
 mul-entries-3 c = search needs
 
--- src/tally.rt:80:28
 add-entries-2 : tie.Need-add-entries-2
 add-entries-2 c = search needs
 
--- src/tally.rt:83:16
 cast-entries-4 : tie.Need-cast-entries-4
 cast-entries-4 c = search needs
 
--- src/tally.rt:80:28
 add-entries-3 : tie.Need-add-entries-3
 add-entries-3 c = search needs
 
--- src/tally.rt:80:9
 mul-entries-4 : tie.Need-mul-entries-4
 mul-entries-4 c = search needs
 
--- src/tally.rt:80:9
 element-write-entries : tie.Need-element-write-entries
 element-write-entries c = search needs
 
--- src/tally.rt:75:1
 returns : tie.Need-returns
 returns c = rw (eq-eqb _ _ (c .before .before .before .if1 .taken))
 
--- src/tally.rt:75:1
 returns-2 : tie.Need-returns-2
 returns-2 c = rw (ne-eqb _ _ (c .if1 .left))
 

@@ -14,7 +14,6 @@ use Rattle.trace.specs.ItemLaws.{count-le, count-next, items-before-le}
 use Rattle.trace.specs.Listing.{counted}
 use Rattle.trace.specs.JudgeLaws.{earliest-reserved, earliest-too-soon, earliest-passes, earliest-ends}
 use Rattle.index.specs.RangeLaws.{marker-at-most}
-use Rattle.summary.specs.Tally.{Tallied}
 use Rattle.summary.specs.CycleLaws.{cycle-noted, items-with-value, room-for-one}
 use Rattle.summary.specs.Index.{entryCount, firstEntries, indexWords}
 use Rattle.summary.specs.IndexLaws.{entry-next}
@@ -22,16 +21,7 @@ use Rattle.summary.specs.ReadLaws.{Judging, judging-starts, too-long-so}
 use borrow.Author.Needs.{needs}
 use Rattle.summary.proofs.tally.tally_trace.Statement.{statement}
 use Rattle.summary.proofs.tally.tally_trace.Tie as tie
-use Rattle.summary.proofs.tally.tally_trace.Reads as reads
-use Rattle.summary.proofs.tally.tally_trace.Lts as lts
-use Rattle.summary.proofs.tally.note_own.Reads as note-own-reads
-use Rattle.summary.proofs.tally.note_value.Reads as note-value-reads
-use Rattle.summary.proofs.tally.put_entry.Reads as put-entry-reads
-use Rattle.trace.proofs.cycle.after_cycle.Reads as after-cycle-reads
-use Rattle.trace.proofs.cycle.comes_too_soon.Reads as comes-too-soon-reads
-use Rattle.trace.proofs.cycle.is_reserved.Reads as is-reserved-reads
-use Rattle.trace.proofs.cycle.nothing_carried.Reads as nothing-carried-reads
-use Rattle.trace.proofs.listing.count_items.Reads as count-items-reads
+use Rattle.summary.specs.Noting.{Tallied}
 
 abbrev Inv-loop : tie.InvT-loop
 Inv-loop trace counts₀ firsts₀ lasts₀ entries₀ carried₀ items₀ i₀ counts firsts lasts entries carried items i =
@@ -42,15 +32,12 @@ abbrev μ-loop : tie.MeasureT-loop
 μ-loop trace counts₀ firsts₀ lasts₀ entries₀ carried₀ items₀ i₀ counts firsts lasts entries carried items i =
     length trace - i
 
--- src/tally.rt:100:9
 returns : tie.Need-returns Inv-loop μ-loop
 returns c = (too-long-so _ (search needs), tt)
 
--- src/tally.rt:105:9
 nothing-carried-requires : tie.Need-nothing-carried-requires Inv-loop μ-loop
 nothing-carried-requires c κs = tt
 
--- src/tally.rt:108:5
 loop-holds : tie.Need-loop-holds Inv-loop μ-loop
 unfolding carriedInto itemsBefore firstEntries
 loop-holds c = (
@@ -63,31 +50,25 @@ loop-holds c = (
       (c .nothing-carried .ensures),
 )
 
--- src/tally.rt:109:19
 shared-slice-read-pst : tie.Need-shared-slice-read-pst Inv-loop μ-loop
 shared-slice-read-pst c = search needs
 
--- src/tally.rt:110:12
 is-reserved-requires : tie.Need-is-reserved-requires Inv-loop μ-loop
 is-reserved-requires c κs = tt
 
--- src/tally.rt:111:13
 returns-2 : tie.Need-returns-2 Inv-loop μ-loop
 returns-2 c = let w = c .before .before .before .before .loop in
     (sym (earliest-reserved _ (w .i) _ _ (search needs) (sym (c .before .is-reserved .ensures) ∙ c .if2 .taken)) ∙ w .inv .5, tt)
 
--- src/tally.rt:116:12
 comes-too-soon-requires : tie.Need-comes-too-soon-requires Inv-loop μ-loop
 comes-too-soon-requires c κs = tt
 
--- src/tally.rt:117:13
 returns-3 : tie.Need-returns-3 Inv-loop μ-loop
 returns-3 c = let w = c .before .before .before .before .before .before .loop in
     let r = sym (c .before .before .before .is-reserved .ensures) ∙ c .before .before .if2 .left in
     let s = sym (c .before .comes-too-soon .ensures) ∙ c .if3 .taken in
     (sym (earliest-too-soon _ (w .i) _ _ (search needs) r s) ∙ w .inv .5, tt)
 
--- src/tally.rt:122:9
 put-entry-requires : tie.Need-put-entry-requires Inv-loop μ-loop
 put-entry-requires c κs = let w = c .before .before .before .before .before .before .before .loop in (
   search needs,
@@ -99,14 +80,12 @@ put-entry-requires c κs = let w = c .before .before .before .before .before .be
   ),
 )
 
--- src/tally.rt:123:9
 note-value-requires : tie.Need-note-value-requires Inv-loop μ-loop
 note-value-requires c κs = let w = c .before .before .before .before .before .before .before .before .before .before .before .loop in
     let trace = c .before .before .before .before .before .before .before .before .before .before .before .before .before .before .before .args .trace .now in
     let m : w .carried .marker < 16 = rw (w .inv .1) (omega (arith, marker-at-most trace (w .i))) in
     (search needs, m, room-for-one (itemsBefore trace (w .i)) (w .carried .marker) m (omega (arith, items-before-le trace (w .i))) (w .inv .3))
 
--- src/tally.rt:124:9
 note-own-requires : tie.Need-note-own-requires Inv-loop μ-loop
 note-own-requires c κs = let w = c .before .before .before .before .before .before .before .before .before .before .before .before .before .before .before .loop in
     let trace = c .before .before .before .before .before .before .before .before .before .before .before .before .before .before .before .before .before .before .before .args .trace .now in
@@ -118,29 +97,23 @@ note-own-requires c κs = let w = c .before .before .before .before .before .bef
           (omega (arith, items-with-value trace (w .i) (w .carried))) t,
     )
 
--- src/tally.rt:125:18
 count-items-requires : tie.Need-count-items-requires Inv-loop μ-loop
 count-items-requires c κs = tt
 
--- src/tally.rt:125:9
 add-items : tie.Need-add-items Inv-loop μ-loop
 add-items c = let w = c .before .before .before .before .before .before .before .before .before .before .before .before .before .before .before .before .before .loop in
     let trace = c .before .before .before .before .before .before .before .before .before .before .before .before .before .before .before .before .before .before .before .before .before .args .trace .now in
     omega (arith, c .count-items .ensures, count-le (w .carried) (pst trace (w .i)), items-before-le trace (w .i), w .inv .2)
 
--- src/tally.rt:126:9
 after-cycle-requires : tie.Need-after-cycle-requires Inv-loop μ-loop
 after-cycle-requires c κs = tt
 
--- src/tally.rt:127:9
 add-i : tie.Need-add-i Inv-loop μ-loop
 add-i c = search needs
 
--- src/tally.rt:108:5
 loop-less : tie.Need-loop-less Inv-loop μ-loop
 loop-less c = search needs
 
--- src/tally.rt:108:5
 loop-again : tie.Need-loop-again Inv-loop μ-loop
 loop-again c = let w = c .before .before .before .before .before .before .before .before .before .before .before .before .before .before .before .before .before .before .loop in
     let a = c .before .before .before .before .before .before .before .before .before .before .before .before .before .before .before .before .before .before .before .before .before .before .args in
@@ -159,7 +132,6 @@ loop-again c = let w = c .before .before .before .before .before .before .before
       rw (c .after-cycle .ensures) (sym (earliest-passes _ (w .i) _ _ (search needs) r s) ∙ w .inv .5),
     )
 
--- src/tally.rt:130:9
 returns-4 : tie.Need-returns-4 Inv-loop μ-loop
 unfolding items indexWords
 returns-4 c = let w = c .before .before .before .loop in
@@ -170,7 +142,6 @@ returns-4 c = let w = c .before .before .before .loop in
       (rw e at (w .inv .3), rw e at (w .inv .4)),
     )
 
--- src/tally.rt:89:1
 returns-5 : tie.Need-returns-5 Inv-loop μ-loop
 returns-5 c = let w = c .before .before .before .loop in
     let trace = c .before .before .before .before .before .before .before .args .trace .now in

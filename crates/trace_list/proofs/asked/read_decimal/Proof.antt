@@ -7,8 +7,6 @@ use Rattle.trace_list.specs.AskedLaws.{below-digits, above-digits, too-w
 use borrow.Author.Needs.{needs}
 use Rattle.trace_list.proofs.asked.read_decimal.Statement.{statement}
 use Rattle.trace_list.proofs.asked.read_decimal.Tie as tie
-use Rattle.trace_list.proofs.asked.read_decimal.Reads as reads
-use Rattle.trace_list.proofs.asked.read_decimal.Lts as lts
 
 abbrev Inv-loop : tie.InvT-loop
 Inv-loop word number₀ i₀ number i = (i ≤ length word) × (number ≤ 0xFFFFFFFF) × (decimal number (drop i word) ≡ decimal 0 word)
@@ -16,49 +14,38 @@ Inv-loop word number₀ i₀ number i = (i ≤ length word) × (number ≤ 0xFFF
 abbrev μ-loop : tie.MeasureT-loop
 μ-loop word number₀ i₀ number i = length word - i
 
--- src/asked.rt:17:5
 loop-holds : tie.Need-loop-holds Inv-loop μ-loop
 loop-holds c = (search needs, search needs, refl)
 
--- src/asked.rt:18:20
 shared-slice-read-byte : tie.Need-shared-slice-read-byte Inv-loop μ-loop
 shared-slice-read-byte c = search needs
 
--- src/asked.rt:20:13
 returns : tie.Need-returns Inv-loop μ-loop
 returns c = let w = c .before .before .before .loop in sym (below-digits _ (w .number) (w .i) (search needs) (c .if1 .taken)) ∙ w .inv .2
 
--- src/asked.rt:23:13
 returns-2 : tie.Need-returns-2 Inv-loop μ-loop
 returns-2 c = let w = c .before .before .before .before .loop in sym
     (above-digits _ (w .number) (w .i) (search needs) (c .before .if1 .left) (c .if2 .taken)) ∙ w .inv .2
 
--- src/asked.rt:25:18
 mul-number : tie.Need-mul-number Inv-loop μ-loop
 mul-number c = search needs
 
--- src/asked.rt:25:32
 cast-number : tie.Need-cast-number Inv-loop μ-loop
 cast-number c = search needs
 
--- src/asked.rt:25:18
 add-number : tie.Need-add-number Inv-loop μ-loop
 add-number c = search needs
 
--- src/asked.rt:27:13
 returns-3 : tie.Need-returns-3 Inv-loop μ-loop
 returns-3 c = let w = c .before .before .before .before .before .loop in sym
     (too-wide _ (w .number) (w .i) (search needs) (c .before .before .if1 .left) (c .before .if2 .left) (c .if3 .taken)) ∙ w .inv .2
 
--- src/asked.rt:29:9
 add-i : tie.Need-add-i Inv-loop μ-loop
 add-i c = search needs
 
--- src/asked.rt:17:5
 loop-less : tie.Need-loop-less Inv-loop μ-loop
 loop-less c = search needs
 
--- src/asked.rt:17:5
 loop-again : tie.Need-loop-again Inv-loop μ-loop
 loop-again c = let w = c .before .before .before .before .before .loop in (
   search needs,
@@ -67,11 +54,9 @@ loop-again c = let w = c .before .before .before .before .before .loop in (
       (c .if3 .left)) ∙ w .inv .2,
 )
 
--- src/asked.rt:31:17
 cast-t11 : tie.Need-cast-t11 Inv-loop μ-loop
 cast-t11 c = search needs
 
--- src/asked.rt:12:1
 returns-4 : tie.Need-returns-4 Inv-loop μ-loop
 returns-4 c = let w = c .before .loop in sym (no-byte-left _ (w .number) (w .i) (search needs)) ∙ w .inv .2
 

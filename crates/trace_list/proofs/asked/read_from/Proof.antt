@@ -5,44 +5,32 @@ use Rattle.trace_list.specs.AskedLaws.{some-word, no-word}
 use borrow.Author.Needs.{needs}
 use Rattle.trace_list.proofs.asked.read_from.Statement.{statement}
 use Rattle.trace_list.proofs.asked.read_from.Tie as tie
-use Rattle.trace_list.proofs.asked.read_from.Reads as reads
-use Rattle.trace_list.proofs.asked.read_from.Lts as lts
-use Rattle.trace_list.proofs.asked.read_decimal.Reads as read-decimal-reads
 
--- src/asked.rt:39:9
 returns : tie.Need-returns
 returns c = sym (no-word (c .before .before .args .word .now) (c .if1 .taken))
 
--- src/asked.rt:41:9
 read-decimal-requires : tie.Need-read-decimal-requires
 read-decimal-requires c κs = search needs
 
--- src/asked.rt:43:25
 enum-told : tie.Need-enum-told
 enum-told c = search needs
 
--- src/asked.rt:44:27
 enum-told-2 : tie.Need-enum-told-2
 enum-told-2 c = search needs
 
--- src/asked.rt:45:21
 enum-known-read : tie.Need-enum-known-read
 enum-known-read c = search needs
 
--- src/asked.rt:47:17
 returns-2 : tie.Need-returns-2
 returns-2 c = sym (some-word _ (c .before .before .before .before .before .if1 .left)
     ∙ ap multiple (sym (c .before .before .before .before .read-decimal .ensures) ∙ c .before .before .read .given .1) ∙ rw (eq-eqb _ _ (c .if2 .taken)) refl)
 
--- src/asked.rt:35:1
 returns-3 : tie.Need-returns-3
 returns-3 c = sym (some-word _ (c .before .before .before .if1 .left) ∙ ap multiple (sym (c .before .before .read-decimal .ensures) ∙ c .enum-told .given .1))
 
--- src/asked.rt:35:1
 returns-4 : tie.Need-returns-4
 returns-4 c = sym (some-word _ (c .before .before .before .if1 .left) ∙ ap multiple (sym (c .before .before .read-decimal .ensures) ∙ c .enum-told2 .given .1))
 
--- src/asked.rt:35:1
 returns-5 : tie.Need-returns-5
 returns-5 c = sym (some-word _ (c .before .before .before .before .before .if1 .left)
     ∙ ap multiple (sym (c .before .before .before .before .read-decimal .ensures) ∙ c .before .before .read .given .1) ∙ rw (ne-eqb _ _ (c .if2 .left)) refl)
