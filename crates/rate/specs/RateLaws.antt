@@ -5,8 +5,8 @@ use mathlib.Core.Bool.{Bool, true, false, cond}
 use native.Mathlib.Nat.{div-add-mod, mod-lt, mul-suc, mul-one, zero-mul, mul-comm, mul-assoc, mul-pos}
 use native.Mathlib.Numerals.{add-one}
 use native.Mathlib.Omega.{arith}
-use lib.Dec.{T, ltb}
-use borrow.Author.Tests.{ne-eqb}
+use lib.Dec.{T, ltb, eqb}
+use borrow.Author.Tests.{ne-eqb, eqb-true, eqb-false}
 use lib.IntN.{pos}
 use lib.Ieee.{Float, nan, inf, fin, Format, binary64, prec, emax, low, size, nearest, odd, units, round, ofInt, div, ne, isNan, up, down, ofBits, toBits}
 use lib.Ieee.Exact.{HasValue}
@@ -17,7 +17,8 @@ use lib.Ieee.Bits.{ofBits-toBits}
 use lib.Ieee.Order.{round-mono}
 use lib.Ieee.Positive.{above, above-of-le}
 use lib.Ieee.Compare.{differs-from-itself, nan-differs}
-use Rattle.rate.specs.Rate.{quotient, hundredths}
+use Rattle.rate.specs.Rate.{quotient, rateOf, rateBits, hundredths}
+use Rattle.rate.specs.declared.Rate.the-variants.{NothingStarted, Average}
 
 -- a value that differs from itself is no number, and no other does
 pub differs-is-nan : (x : Float) (b : Bool) → ne x x ≡ b → isNan x ≡ b
@@ -99,6 +100,19 @@ rate-bits-not-zero cycles starts h k p e = rw is-zero at above-zero
 
     above-zero : T (above z)
     above-zero = above-of-le (round binary64 false 1 1) z tt (round-mono binary64 1 1 cycles starts (omega arith) p (omega arith))
+
+-- so the bits tell whether there is a rate: 0 exactly where nothing started
+pub no-rate-no-bits : (cycles : ℕ) → rateBits (rateOf cycles 0) ≡ 0
+no-rate-no-bits cycles = refl
+
+pub no-bits-no-rate : (cycles starts : ℕ) → cycles ≤ 65536 → starts ≤ cycles → rateBits (rateOf cycles starts) ≡ 0 → starts ≡ 0
+no-bits-no-rate cycles starts h k = by-starts (eqb starts 0) refl
+  where
+    by-starts : (b : Bool) → eqb starts 0 ≡ b → rateBits (cond b NothingStarted (Average (quotient cycles starts))) ≡ 0 → starts ≡ 0
+    by-starts true t e = eqb-true starts 0 t
+    by-starts false t e =
+        let p : 0 < starts = omega (arith, eqb-false starts 0 t) in
+        absurd (rate-bits-not-zero cycles starts h k p (rw (rate-is-a-number cycles starts h (omega arith) p) at e))
 
 -- "half rounded up": from half a hundredth below the fraction on, to half a hundredth above it
 pub half-up : (cycles starts : ℕ) → 0 < starts

@@ -1,7 +1,7 @@
 -- P9's page and index ("[2]" of the desk's language), computed from the definitions; a page where nothing started.
 use mathlib.Core.Path.{_≡_, refl}
 use mathlib.Core.List.{[], _∷_}
-use lib.ListN.{length}
+use lib.ListN.{length, getD}
 use Rattle.rate.specs.declared.Rate.the-variants.{NothingStarted}
 use Rattle.rate.specs.Rate.{rateOf, hundredths}
 use Rattle.trace.specs.Cycle.{givesOwn, after, carriedInto, value}
@@ -10,7 +10,7 @@ use Rattle.trace.specs.Listing.{refusal, counted, tooLong, earliest, endsInside
 use Rattle.trace.specs.Examples.{p9}
 use Rattle.summary.specs.Tally.{countOf, firstOf, lastOf, startsOf, each, perCode}
 use Rattle.summary.specs.Index.{firstEntries, indexWords}
-use Rattle.summary.specs.Page.{indexShort, pageVerdict}
+use Rattle.summary.specs.Page.{pageOf, indexShort, pageVerdict}
 
 pub record Shown : Type 0 where
   -- "page cycles=9 items=5 starts=3"
@@ -22,6 +22,11 @@ pub record Shown : Type 0 where
   pub p9-counts : perCode (countOf (items p9)) ≡ 0 ∷ 2 ∷ 0 ∷ 0 ∷ 0 ∷ 1 ∷ 0 ∷ 0 ∷ 0 ∷ 1 ∷ 0 ∷ 0 ∷ 0 ∷ 0 ∷ 0 ∷ 1 ∷ []
   pub p9-firsts : perCode (firstOf (items p9)) ≡ 0 ∷ 0 ∷ 0 ∷ 0 ∷ 0 ∷ 1 ∷ 0 ∷ 0 ∷ 0 ∷ 6 ∷ 0 ∷ 0 ∷ 0 ∷ 0 ∷ 0 ∷ 7 ∷ []
   pub p9-lasts : perCode (lastOf (items p9)) ≡ 0 ∷ 6 ∷ 0 ∷ 0 ∷ 0 ∷ 1 ∷ 0 ∷ 0 ∷ 0 ∷ 6 ∷ 0 ∷ 0 ∷ 0 ∷ 0 ∷ 0 ∷ 7 ∷ []
+  -- and each stands in its own place of the page
+  pub p9-page-cycles : pageOf p9 5 .cycles ≡ 9
+  pub p9-page-counts : getD (pageOf p9 5 .counts) 1 0 ≡ 2
+  pub p9-page-firsts : getD (pageOf p9 5 .firsts) 1 0 ≡ 0
+  pub p9-page-lasts : getD (pageOf p9 5 .lasts) 1 0 ≡ 6
   -- "index 0 items 0 transfer none run none"
   pub p9-index : indexWords p9 ≡ 0 ∷ []
   -- no room for the one entry
@@ -44,6 +49,10 @@ shown =
       p9-counts = refl;
       p9-firsts = refl;
       p9-lasts = refl;
+      p9-page-cycles = refl;
+      p9-page-counts = refl;
+      p9-page-firsts = refl;
+      p9-page-lasts = refl;
       p9-index = refl;
       p9-short = refl;
       empty = refl;
