@@ -1,7 +1,7 @@
 use borrow.Author.Tests.{le-leb, lt-leb}
 use borrow.Author.Needs.{needs}
-use Rattle.board.proofs.is_phase.Statement.{statement}
-use Rattle.board.proofs.is_phase.Tie as tie
+use Rattle.board.proofs.is_phase_in_range.Statement.{statement}
+use Rattle.board.proofs.is_phase_in_range.Tie as tie
 
 enum-told : tie.Need-enum-told
 enum-told c = search needs
@@ -18,11 +18,11 @@ returns c = rw (c .before .before .before .phase .given .1, le-leb _ _ (c .befor
 enum-known-phase-2 : tie.Need-enum-known-phase-2
 enum-known-phase-2 c = search needs
 
-is-waiting-requires : tie.Need-is-waiting-requires
-is-waiting-requires c κs = search needs
+does-wait-requires : tie.Need-does-wait-requires
+does-wait-requires c κs = search needs
 
 returns-2 : tie.Need-returns-2
-returns-2 c = rw (c .before .before .before .before .phase2 .given .1, le-leb _ _ (c .before .before .if2 .taken), le-leb _ _ (c .before .if3 .taken), ← c .is-waiting .ensures)
+returns-2 c = rw (c .before .before .before .before .phase2 .given .1, le-leb _ _ (c .before .before .if2 .taken), le-leb _ _ (c .before .if3 .taken), ← c .does-wait .ensures)
 
 returns-3 : tie.Need-returns-3
 returns-3 c = rw (c .before .before .before .phase2 .given .1, le-leb _ _ (c .before .if2 .taken), lt-leb _ _ (c .if3 .left))
@@ -42,8 +42,8 @@ returns-6 c = rw (c .before .before .phase2 .given .1, lt-leb _ _ (c .if2 .left)
 returns-7 : tie.Need-returns-7
 returns-7 c = search needs
 
-pub is-phase-spec : {M : Type 1} → statement M
-is-phase-spec =
+pub is-phase-in-range-spec : {M : Type 1} → statement M
+is-phase-in-range-spec =
     tie.close
     (tie.spec
     enum-told
@@ -51,7 +51,7 @@ is-phase-spec =
     operand-count-requires
     returns
     enum-known-phase-2
-    is-waiting-requires
+    does-wait-requires
     returns-2
     returns-3
     enum-told-2
