@@ -49,15 +49,6 @@ withBstat s x = record { halted = s .halted; fof = s .fof; trg = s .trg; halt = 
 abbrev pub withSync : Status → Bool → Status
 withSync s x = record { halted = s .halted; fof = s .fof; trg = s .trg; halt = s .halt; bkpt = s .bkpt; bstat = s .bstat; sync = x }
 
--- ---- the place
-abbrev pub withPhase : Place → Phase → Place
-withPhase p x = record { phase = x; chain = p .chain; pointer = p .pointer; next = p .next }
-
-abbrev pub withChain : Place → Chain → Place
-withChain p x = record { phase = p .phase; chain = x; pointer = p .pointer; next = p .next }
-
-abbrev pub withPointer : Place → ℕ → Place
-withPointer p x = record { phase = p .phase; chain = p .chain; pointer = x; next = p .next }
-
-abbrev pub withNext : Place → ℕ → Place
-withNext p x = record { phase = p .phase; chain = p .chain; pointer = p .pointer; next = x }
+-- ---- the place: all that a packet changes of it
+abbrev pub placeWith : Place → Phase → Chain → ℕ → ℕ → Place
+placeWith p phase chain pointer next = record { phase = phase; chain = chain; pointer = pointer; next = next }

@@ -2,6 +2,7 @@
 ghost use mathlib.Core.Path.{_≡_};
 ghost use Rattle.board.specs.Board.{freshBoard, freshPlace, MakingMeets};
 ghost use Rattle.board.specs.State.{standingOf};
+ghost use Rattle.board.specs.Setters.{placeWith};
 ghost use Rattle.board.specs.Ranges.{bstatInRange, phaseInRange, boardInRange, placeInRange, inRange};
 use command::Command;
 use grounds::Ground;
@@ -228,5 +229,17 @@ pub fn standing_of(board: Board, place: Place) -> Standing
     Standing {
         halted: board.status.halted,
         chain: chain,
+    }
+}
+
+// A field that no packet changes would come from the place given.
+pub fn set_place(place: Place, phase: Phase, chain: Chain, pointer: u32, next: u32) -> Place
+    ensures { λ r. ⌜ r ≡ placeWith place phase chain pointer next ⌝ }
+{
+    Place {
+        phase: phase,
+        chain: chain,
+        pointer: pointer,
+        next: next,
     }
 }

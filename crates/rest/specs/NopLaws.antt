@@ -9,7 +9,7 @@ use Rattle.board.specs.declared.Place.{Place}
 use Rattle.board.specs.declared.Phase.{Phase}
 use Rattle.board.specs.declared.Phase.the-variants.{Rest, Due, Waiting, Low}
 use Rattle.board.specs.declared.Chain.{Chain}
-use Rattle.plan.specs.Plan.{ready, waitsOf, continued, planOf}
+use Rattle.plan.specs.Plan.{workAfter, waitsOf, continued, planOf}
 use Rattle.port.specs.Packets.{planFor, placeNext}
 use Rattle.port.specs.Sound.{PhaseWithin}
 use Rattle.port.specs.QuietLaws.{nop-plan}
@@ -20,7 +20,7 @@ nop-leaves w Rest halted chain h = rw (nop-plan halted chain w) zero-le
 nop-leaves w (Due c left t) halted chain h =
     leaves-more w (left - 1 + waitsOf w c + uppers c) (left + waitsOf w c + uppers c - 1) (continued c left t w 0) (omega (arith, h .0)) (continued-leaves c left t w 0)
 nop-leaves w (Waiting c left address value) halted chain h =
-    leaves-more w (left - 1 + uppers c) (left + uppers c - 1) (ready (left - 1) c address value) (omega (arith, h .0)) (ready-leaves w (left - 1) c address value)
+    leaves-more w (left - 1 + uppers c) (left + uppers c - 1) (workAfter (left - 1) c address value) (omega (arith, h .0)) (ready-leaves w (left - 1) c address value)
 nop-leaves w (Low low) halted chain h = tt
 
 pub nop-takes-one-off : (w : ℕ) (b : Board) (p : Place) (m : List ℕ) → b .w ≡ w → PhaseWithin w (p .phase) → toGo w (placeNext b p m 0 .phase) ≤ toGo w (p .phase) - 1

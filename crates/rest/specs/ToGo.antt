@@ -29,7 +29,7 @@ use Rattle.work.specs.Access.{past, fetchedAccess, startOf, accessOf}
 use Rattle.work.specs.Work.{accessEnding, shownEnding, changeEnding, endingOf, phaseAfter}
 use Rattle.plan.specs.declared.Plan.{Plan}
 use Rattle.plan.specs.declared.Plan.the-variants.{Hold, Reject, Release, Work}
-use Rattle.plan.specs.Plan.{carriesC, addressIn, valueIn, withOperand, ready, waitsOf, collected, continued}
+use Rattle.plan.specs.Plan.{carriesC, addressIn, valueIn, withOperand, workAfter, waitsOf, collected, continued}
 use Rattle.port.specs.Packets.{placeBy}
 use Rattle.port.specs.Sound.{PhaseWithin}
 use Rattle.memory.specs.MemoryLaws.{either}
@@ -118,16 +118,16 @@ place-leaves w n Reject b p m h = zero-le
 place-leaves w n (Release low) b p m h = zero-le
 place-leaves w n (Work c address value) b p m h = omega (arith, work-to-go w c b m (p .pointer) address)
 
-pub ready-leaves : (w left : ℕ) (c : Command) (address value : ℕ) → PlanLeaves w (left + uppers c) (ready left c address value)
-unfolding ready
+pub ready-leaves : (w left : ℕ) (c : Command) (address value : ℕ) → PlanLeaves w (left + uppers c) (workAfter left c address value)
+unfolding workAfter
 ready-leaves w left c address value =
     either (PlanLeaves w (left + uppers c)) (eqb left 0) (Work c address value) (Hold (Waiting c left address value)) (λ e. omega arith) (λ e. le-refl _)
 
 collected-leaves : (w left : ℕ) (c : Command) (t : Operands) → PlanLeaves w (left + waitsOf w c + uppers c) (collected w left c t)
 unfolding collected
 collected-leaves w left c t =
-    either (PlanLeaves w (left + waitsOf w c + uppers c)) (eqb left 0) (ready (waitsOf w c) c (addressIn (operandWords c) t) (valueIn (operandWords c) t)) (Hold (Due c left t))
-    (λ e. leaves-more w (waitsOf w c + uppers c) (left + waitsOf w c + uppers c) (ready (waitsOf w c) c (addressIn (operandWords c) t) (valueIn (operandWords c) t)) (omega arith)
+    either (PlanLeaves w (left + waitsOf w c + uppers c)) (eqb left 0) (workAfter (waitsOf w c) c (addressIn (operandWords c) t) (valueIn (operandWords c) t)) (Hold (Due c left t))
+    (λ e. leaves-more w (waitsOf w c + uppers c) (left + waitsOf w c + uppers c) (workAfter (waitsOf w c) c (addressIn (operandWords c) t) (valueIn (operandWords c) t)) (omega arith)
     (ready-leaves w (waitsOf w c) c (addressIn (operandWords c) t) (valueIn (operandWords c) t)))
     (λ e. le-refl _)
 
