@@ -5,8 +5,11 @@ use memory::Size;
 
 // The replies that are no data (01, "Replies: ..").
 pub const COMPLETE: u32 = 0x0FFFF;
+
 pub const NOT_READY: u32 = 0x10000;
+
 pub const BUS_ERROR: u32 = 0x10001;
+
 pub const ILLEGAL: u32 = 0x1FFFF;
 
 // The registers that WDMREG takes.

@@ -13,7 +13,7 @@ use Rattle.board.specs.declared.Phase.{Phase}
 use Rattle.board.specs.declared.Phase.the-variants.{Rest, Due, Waiting, Low}
 use Rattle.board.specs.declared.Place.{Place}
 use Rattle.board.specs.Ranges.{bstatInRange}
-use Rattle.port.specs.Run.{State}
+use Rattle.board.specs.State.{State}
 
 -- "32 bits each", "AATR keeps the low 16 bits, BAAR the low 8"
 pub record DebugWithin (d : Debug) : Type 0 where
@@ -28,9 +28,10 @@ pub record DebugWithin (d : Debug) : Type 0 where
   pub dbr : d .dbr < 2 ^ 32
   pub dbmr : d .dbmr < 2 ^ 32
 
--- the board's own ranges, and its registers within their width
-pub record SoundBoard (b : Board) : Type 0 where
-  pub setting : b .w ≤ 15
+-- a board made with W: its own ranges, and its registers within their width
+pub record SoundBoard (w : ℕ) (b : Board) : Type 0 where
+  pub setting : b .w ≡ w
+  pub small : w ≤ 15
   pub bstat : bstatInRange (b .status .bstat) ≡ true
   pub general : AllBelow (2 ^ 32) (b .registers .general)
   pub control : AllBelow (2 ^ 32) (b .registers .control)
@@ -61,6 +62,6 @@ pub record SoundMemory (m : List ℕ) : Type 0 where
 
 -- all that a packet finds
 pub record Sound (s : State) : Type 0 where
-  pub board : SoundBoard (s .board)
+  pub board : SoundBoard (s .board .w) (s .board)
   pub place : SoundPlace (s .board .w) (s .place)
   pub memory : SoundMemory (s .memory)

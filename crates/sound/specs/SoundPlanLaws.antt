@@ -10,12 +10,12 @@ use Rattle.command.specs.Command.{decoded, operandWords, waits}
 use Rattle.board.specs.declared.Operands.{Operands}
 use Rattle.board.specs.declared.Phase.{Phase}
 use Rattle.board.specs.declared.Phase.the-variants.{Rest, Due, Waiting, Low}
-use Rattle.board.specs.declared.Chain.{Chain}
+use Rattle.board.specs.declared.Standing.{Standing}
 use Rattle.plan.specs.declared.Plan.{Plan}
 use Rattle.plan.specs.declared.Plan.the-variants.{Hold, Reject, Release, Work}
 use Rattle.plan.specs.Plan.{carriesC, legalWord, noOperands, withOperand, addressIn, valueIn, long, waitsOf, workAfter, collected, begun, continued, planOf}
-use Rattle.memory.specs.MemoryLaws.{either}
-use Rattle.port.specs.Sound.{OperandsWithin, PhaseWithin}
+use Rattle.laws.specs.Tests.{either}
+use Rattle.sound.specs.Sound.{OperandsWithin, PhaseWithin}
 
 -- ---- the plan
 abbrev pub PlanWithin : ℕ → Plan → Type 0
@@ -43,9 +43,9 @@ value-in-within n t h =
 not-zero : (x : ℕ) → eqb x 0 ≡ false → 1 ≤ x
 not-zero x t = let h : x ≡ 0 → ⊥ = eqb-false x 0 t in omega arith
 
-ready-within : (w left : ℕ) (c : Command) (a d : ℕ) → left ≤ waitsOf w c → a < 2 ^ 32 → d < 2 ^ 32 → PlanWithin w (workAfter left c a d)
+work-after-within : (w left : ℕ) (c : Command) (a d : ℕ) → left ≤ waitsOf w c → a < 2 ^ 32 → d < 2 ^ 32 → PlanWithin w (workAfter left c a d)
 unfolding workAfter
-ready-within w left c a d h f g =
+work-after-within w left c a d h f g =
     either (PlanWithin w) (eqb left 0) (Work c a d) (Hold (Waiting c left a d)) (λ e. (f, g)) (λ e. waiting (waits c) refl (not-zero left e) h)
   where
     waiting : (t : Bool) → waits c ≡ t → 1 ≤ left → left ≤ cond t w 0 → (1 ≤ left) × (left ≤ w) × (waits c ≡ true) × (a < 2 ^ 32) × (d < 2 ^ 32)
@@ -56,13 +56,13 @@ collected-within : (w left : ℕ) (c : Command) (t : Operands) → left ≤ oper
 unfolding collected
 collected-within w left c t h o =
     either (PlanWithin w) (eqb left 0) (workAfter (waitsOf w c) c (addressIn (operandWords c) t) (valueIn (operandWords c) t)) (Hold (Due c left t))
-    (λ e. ready-within w (waitsOf w c) c (addressIn (operandWords c) t) (valueIn (operandWords c) t) (omega arith) (address-within (operandWords c) t o) (value-in-within (operandWords c) t o))
+    (λ e. work-after-within w (waitsOf w c) c (addressIn (operandWords c) t) (valueIn (operandWords c) t) (omega arith) (address-within (operandWords c) t o) (value-in-within (operandWords c) t o))
     (λ e. (not-zero left e, h, o))
 
-begun-within : (halted : Bool) (chain : Chain) (w word : ℕ) → PlanWithin w (begun halted chain w word)
+begun-within : (s : Standing) (w word : ℕ) → PlanWithin w (begun s w word)
 unfolding begun
-begun-within halted chain w word =
-    either (PlanWithin w) (legalWord word halted chain) (collected w (operandWords (decoded word)) (decoded word) noOperands) Reject
+begun-within s w word =
+    either (PlanWithin w) (legalWord word s) (collected w (operandWords (decoded word)) (decoded word) noOperands) Reject
     (λ e. collected-within w (operandWords (decoded word)) (decoded word) noOperands (omega arith) none-within)
     (λ e. tt)
 
@@ -72,8 +72,8 @@ continued-within c left t w word h o =
     either (PlanWithin w) (carriesC word) Reject (collected w (left - 1) c (withOperand t word)) (λ e. tt)
     (λ e. let small : word < 0x10000 = leb-false 0x10000 word e in collected-within w (left - 1) c (withOperand t word) (omega arith) (more-within t word o small))
 
-pub plan-within : (phase : Phase) (halted : Bool) (chain : Chain) (w word : ℕ) → PhaseWithin w phase → PlanWithin w (planOf phase halted chain w word)
-plan-within Rest halted chain w word h = begun-within halted chain w word
-plan-within (Due c left t) halted chain w word h = continued-within c left t w word (h .1) (h .2)
-plan-within (Waiting c left a d) halted chain w word h = ready-within w (left - 1) c a d (rw (h .2) (omega (arith, h .1))) (h .3) (h .4)
-plan-within (Low low) halted chain w word h = h
+pub plan-within : (phase : Phase) (s : Standing) (w word : ℕ) → PhaseWithin w phase → PlanWithin w (planOf phase s w word)
+plan-within Rest s w word h = begun-within s w word
+plan-within (Due c left t) s w word h = continued-within c left t w word (h .1) (h .2)
+plan-within (Waiting c left a d) s w word h = work-after-within w (left - 1) c a d (rw (h .2) (omega (arith, h .1))) (h .3) (h .4)
+plan-within (Low low) s w word h = h

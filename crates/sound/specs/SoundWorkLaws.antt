@@ -7,12 +7,13 @@ use mathlib.Core.List.{List}
 use lib.Bits.{and-le-r}
 use lib.ListN.{length, getD}
 use borrow.Author.Tests.{leb-true}
+use Rattle.laws.specs.Tests.{either}
 use Rattle.memory.specs.declared.Size.{Size}
 use Rattle.memory.specs.declared.Size.the-variants.{Byte, Word, Long}
 use Rattle.memory.specs.declared.Fetch.{Fetch}
 use Rattle.memory.specs.declared.Fetch.the-variants.{Value, BusError}
 use Rattle.memory.specs.Memory.{bytes, aligned, present, valueAt, fetched, stored}
-use Rattle.memory.specs.MemoryLaws.{either, store-keeps-bytes, store-keeps-length, value-within, limit}
+use Rattle.memory.specs.MemoryLaws.{store-keeps-bytes, store-keeps-length, value-within, limit}
 use Rattle.command.specs.declared.Command.{Command}
 use Rattle.command.specs.declared.Command.the-variants.{Unknown, Nop, Load, Store, Show, Change}
 use Rattle.command.specs.declared.Source.{Source}
@@ -20,14 +21,14 @@ use Rattle.command.specs.declared.Source.the-variants as source
 use Rattle.board.specs.declared.Board.{Board}
 use Rattle.board.specs.declared.Place.{Place}
 use Rattle.registers.specs.Csr.{flag, csrValue}
-use Rattle.registers.specs.Registers.{controlPlace, controlListed, controlFetched, shown, reached}
+use Rattle.registers.specs.Registers.{controlIndex, controlListed, controlFetched, shown, reached}
 use Rattle.work.specs.declared.Access.{Access}
 use Rattle.work.specs.declared.Access.the-variants.{NoAccess, Fetched, Stored, Missing}
 use Rattle.work.specs.declared.Ending.{Ending}
 use Rattle.work.specs.declared.Ending.the-variants.{Complete, Failed, OneWord, TwoWords}
 use Rattle.work.specs.Access.{past, fetchedAccess, fetching, storing, startOf, accessOf, memoryAfter, pointerAfter}
 use Rattle.work.specs.Work.{accessEnding, shownEnding, changeEnding, endingOf, firstReply, phaseAfter, placeAfter}
-use Rattle.port.specs.Sound.{SoundBoard, PhaseWithin, SoundPlace, SoundMemory}
+use Rattle.sound.specs.Sound.{SoundBoard, PhaseWithin, SoundPlace, SoundMemory}
 
 -- ---- memory and the pointer
 abbrev AccessWithin : Access → Type 0
@@ -93,25 +94,25 @@ access-ending-within (Fetched Long v past) h = h .0
 access-ending-within (Stored past) h = tt
 access-ending-within Missing h = tt
 
-shown-within : (source : Source) (b : Board) (address : ℕ) → SoundBoard b → EndingWithin (shownEnding (shown source b address))
+shown-within : (w : ℕ) (source : Source) (b : Board) (address : ℕ) → SoundBoard w b → EndingWithin (shownEnding (shown source b address))
 unfolding controlFetched
-shown-within (source.General n) b a h = h .general (n % 16)
-shown-within source.Control b a h =
-    either (λ f. EndingWithin (shownEnding f)) (controlListed a) (Value (getD (b .registers .control) (controlPlace a) 0)) BusError
-    (λ e. h .control (controlPlace a)) (λ e. tt)
-shown-within source.Csr b a h = csr-within b
+shown-within w (source.General n) b a h = h .general (n % 16)
+shown-within w source.Control b a h =
+    either (λ f. EndingWithin (shownEnding f)) (controlListed a) (Value (getD (b .registers .control) (controlIndex a) 0)) BusError
+    (λ e. h .control (controlIndex a)) (λ e. tt)
+shown-within w source.Csr b a h = csr-within b
 
 change-within : (t : Bool) → EndingWithin (changeEnding t)
 change-within true = tt
 change-within false = tt
 
-ending-within : (c : Command) (b : Board) (address : ℕ) (x : Access) → SoundBoard b → AccessWithin x → EndingWithin (endingOf c b address x)
-ending-within Unknown b a x h k = tt
-ending-within Nop b a x h k = tt
-ending-within (Load s base) b a x h k = access-ending-within x k
-ending-within (Store s base) b a x h k = access-ending-within x k
-ending-within (Show source) b a x h k = shown-within source b a h
-ending-within (Change target) b a x h k = change-within (reached target a)
+ending-within : (w : ℕ) (c : Command) (b : Board) (address : ℕ) (x : Access) → SoundBoard w b → AccessWithin x → EndingWithin (endingOf c b address x)
+ending-within w Unknown b a x h k = tt
+ending-within w Nop b a x h k = tt
+ending-within w (Load s base) b a x h k = access-ending-within x k
+ending-within w (Store s base) b a x h k = access-ending-within x k
+ending-within w (Show source) b a x h k = shown-within w source b a h
+ending-within w (Change target) b a x h k = change-within (reached target a)
 
 next-within : (e : Ending) → EndingWithin e → firstReply e ≤ 0x1FFFF
 next-within Complete h = omega arith
@@ -131,12 +132,12 @@ pointer-within (Fetched s v past) p h k = h .1
 pointer-within (Stored past) p h k = h
 pointer-within Missing p h k = k
 
-pub work-keeps-place : (w : ℕ) (c : Command) (b : Board) (p : Place) (m : List ℕ) (address : ℕ) → SoundBoard b → SoundPlace w p → SoundMemory m
+pub work-keeps-place : (w : ℕ) (c : Command) (b : Board) (p : Place) (m : List ℕ) (address : ℕ) → SoundBoard w b → SoundPlace w p → SoundMemory m
     → SoundPlace w (placeAfter c p (accessOf c m (p .pointer) address) (endingOf c b address (accessOf c m (p .pointer) address)))
 work-keeps-place w c b p m a h k l =
     let x : AccessWithin (accessOf c m (p .pointer) a) = access-within c m (p .pointer) a l in
     record {
       phase = phase-after-within w (endingOf c b a (accessOf c m (p .pointer) a));
-      next = next-within (endingOf c b a (accessOf c m (p .pointer) a)) (ending-within c b a (accessOf c m (p .pointer) a) h x);
+      next = next-within (endingOf c b a (accessOf c m (p .pointer) a)) (ending-within w c b a (accessOf c m (p .pointer) a) h x);
       pointer = pointer-within (accessOf c m (p .pointer) a) (p .pointer) x (k .pointer);
     }

@@ -65,13 +65,25 @@ pub fn hold(place: Place, phase: Phase) -> Place
     ensures { λ r. ⌜ r ≡ holding place phase ⌝ }
 {
     let chain = place.chain;
-    board::set_place(place, phase, chain_in(phase, chain), place.pointer, command::NOT_READY)
+    board::set_place(
+        place,
+        phase,
+        chain_in(phase, chain),
+        place.pointer,
+        command::NOT_READY,
+    )
 }
 
 fn reject(place: Place) -> Place
     ensures { λ r. ⌜ r ≡ rejected place ⌝ }
 {
-    board::set_place(place, Phase::Rest, Chain::Off, place.pointer, command::ILLEGAL)
+    board::set_place(
+        place,
+        Phase::Rest,
+        Chain::Off,
+        place.pointer,
+        command::ILLEGAL,
+    )
 }
 
 pub fn release(place: Place, low: u16) -> Place

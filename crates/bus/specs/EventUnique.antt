@@ -1,4 +1,4 @@
--- Laws of the answers: an outcome is known by what it says on paper, so no second answer fits a promise.
+-- Events and the breakpoint input: an outcome is known by what it says on paper, so no second answer fits.
 use Prim.Native.Nat.{ℕ}
 use mathlib.Core.Path.{_≡_, refl, sym, ap, _∙_}
 use mathlib.Core.List.{List, [], _∷_}
@@ -16,7 +16,7 @@ use Rattle.bus.specs.declared.EventOutcome as events
 use Rattle.bus.specs.declared.BreakpointOutcome as breakpoints
 use Rattle.bus.specs.declared.EventAnswer.{EventAnswer}
 use Rattle.bus.specs.declared.BreakpointAnswer.{BreakpointAnswer}
-use Rattle.bus.specs.Answers.{capturedTold, EventTold, eventTold, BreakpointTold, breakpointTold}
+use Rattle.bus.specs.EventAnswers.{toldCaptured, EventTold, toldEvent, BreakpointTold, toldBreakpoint}
 use Rattle.bus.specs.Events.{EventMeets, BreakpointMeets}
 
 a-refusal-is-told : (g : Ground) → refusalOf g ≡ noRefusal → ⊥
@@ -33,37 +33,37 @@ seenBack t = record { level = t .level; halted = t .halted; interrupt = t .inter
 abbrev pressedBack : BreakpointTold → Pressed
 pressedBack t = record { halted = t .halted; interrupt = t .interrupt }
 
-captured-back : (c : Captured) → capturedBack (capturedTold c) ≡ c
+captured-back : (c : Captured) → capturedBack (toldCaptured c) ≡ c
 captured-back Nothing = refl
 captured-back (Pc pc) = refl
 
-seen-back : (s : Seen) → seenBack (eventTold (events.the-variants.Taken s)) ≡ s
+seen-back : (s : Seen) → seenBack (toldEvent (events.the-variants.Taken s)) ≡ s
 seen-back s = ap (λ (c : Captured). record { level = s .level; halted = s .halted; interrupt = s .interrupt; captured = c }) (captured-back (s .captured))
 
-pub event-told-once : (o q : events.EventOutcome) → eventTold o ≡ eventTold q → o ≡ q
-event-told-once (events.the-variants.Refused g) (events.the-variants.Refused h) e =
+pub told-event-unique : (o q : events.EventOutcome) → toldEvent o ≡ toldEvent q → o ≡ q
+told-event-unique (events.the-variants.Refused g) (events.the-variants.Refused h) e =
     ap events.the-variants.Refused (same-refusal-same-ground g h (ap (λ (t : EventTold). t .refusal) e))
-event-told-once (events.the-variants.Refused g) (events.the-variants.Taken t) e = absurd (a-refusal-is-told g (ap (λ (t : EventTold). t .refusal) e))
-event-told-once (events.the-variants.Taken s) (events.the-variants.Refused h) e = absurd (a-refusal-is-told h (sym (ap (λ (t : EventTold). t .refusal) e)))
-event-told-once (events.the-variants.Taken s) (events.the-variants.Taken t) e = ap events.the-variants.Taken (sym (seen-back s) ∙ ap seenBack e ∙ seen-back t)
+told-event-unique (events.the-variants.Refused g) (events.the-variants.Taken t) e = absurd (a-refusal-is-told g (ap (λ (t : EventTold). t .refusal) e))
+told-event-unique (events.the-variants.Taken s) (events.the-variants.Refused h) e = absurd (a-refusal-is-told h (sym (ap (λ (t : EventTold). t .refusal) e)))
+told-event-unique (events.the-variants.Taken s) (events.the-variants.Taken t) e = ap events.the-variants.Taken (sym (seen-back s) ∙ ap seenBack e ∙ seen-back t)
 
-pub breakpoint-told-once : (o q : breakpoints.BreakpointOutcome) → breakpointTold o ≡ breakpointTold q → o ≡ q
-breakpoint-told-once (breakpoints.the-variants.Refused g) (breakpoints.the-variants.Refused h) e =
+pub told-breakpoint-unique : (o q : breakpoints.BreakpointOutcome) → toldBreakpoint o ≡ toldBreakpoint q → o ≡ q
+told-breakpoint-unique (breakpoints.the-variants.Refused g) (breakpoints.the-variants.Refused h) e =
     ap breakpoints.the-variants.Refused (same-refusal-same-ground g h (ap (λ (t : BreakpointTold). t .refusal) e))
-breakpoint-told-once (breakpoints.the-variants.Refused g) (breakpoints.the-variants.Taken t) e =
+told-breakpoint-unique (breakpoints.the-variants.Refused g) (breakpoints.the-variants.Taken t) e =
     absurd (a-refusal-is-told g (ap (λ (t : BreakpointTold). t .refusal) e))
-breakpoint-told-once (breakpoints.the-variants.Taken s) (breakpoints.the-variants.Refused h) e =
+told-breakpoint-unique (breakpoints.the-variants.Taken s) (breakpoints.the-variants.Refused h) e =
     absurd (a-refusal-is-told h (sym (ap (λ (t : BreakpointTold). t .refusal) e)))
-breakpoint-told-once (breakpoints.the-variants.Taken s) (breakpoints.the-variants.Taken t) e = ap breakpoints.the-variants.Taken (ap pressedBack e)
+told-breakpoint-unique (breakpoints.the-variants.Taken s) (breakpoints.the-variants.Taken t) e = ap breakpoints.the-variants.Taken (ap pressedBack e)
 
 -- no second answer fits
 pub event-unique : {b : Board} {p : Place} {e : Event} {r s : EventAnswer} → EventMeets b p e r → EventMeets b p e s → r ≡ s
 event-unique {b} {p} {e} {r} {s} f g =
-    ap (λ (o : events.EventOutcome). record { outcome = o; board = r .board }) (event-told-once (r .outcome) (s .outcome) (f .answer ∙ sym (g .answer)))
+    ap (λ (o : events.EventOutcome). record { outcome = o; board = r .board }) (told-event-unique (r .outcome) (s .outcome) (f .answer ∙ sym (g .answer)))
     ∙ ap (λ (after : Board). record { outcome = s .outcome; board = after }) (f .board ∙ sym (g .board))
 
 pub breakpoint-unique : {b : Board} {p : Place} {r s : BreakpointAnswer} → BreakpointMeets b p r → BreakpointMeets b p s → r ≡ s
 breakpoint-unique {b} {p} {r} {s} f g =
     ap (λ (o : breakpoints.BreakpointOutcome). record { outcome = o; board = r .board })
-    (breakpoint-told-once (r .outcome) (s .outcome) (f .answer ∙ sym (g .answer)))
+    (told-breakpoint-unique (r .outcome) (s .outcome) (f .answer ∙ sym (g .answer)))
     ∙ ap (λ (after : Board). record { outcome = s .outcome; board = after }) (f .board ∙ sym (g .board))

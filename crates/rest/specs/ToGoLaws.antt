@@ -18,7 +18,6 @@ use Rattle.command.specs.declared.Source.the-variants as source
 use Rattle.command.specs.Command.{sizeWords, operandWords, resultWords, waits}
 use Rattle.command.specs.CommandLaws.{four-at-most}
 use Rattle.board.specs.declared.Board.{Board}
-use Rattle.board.specs.declared.Place.{Place}
 use Rattle.board.specs.declared.Operands.{Operands}
 use Rattle.board.specs.declared.Phase.{Phase}
 use Rattle.board.specs.declared.Phase.the-variants.{Rest, Due, Waiting, Low}
@@ -30,9 +29,10 @@ use Rattle.work.specs.Work.{accessEnding, shownEnding, changeEnding, endingOf, 
 use Rattle.plan.specs.declared.Plan.{Plan}
 use Rattle.plan.specs.declared.Plan.the-variants.{Hold, Reject, Release, Work}
 use Rattle.plan.specs.Plan.{carriesC, addressIn, valueIn, withOperand, workAfter, waitsOf, collected, continued}
-use Rattle.port.specs.Packets.{placeBy}
-use Rattle.port.specs.Sound.{PhaseWithin}
-use Rattle.memory.specs.MemoryLaws.{either}
+use Rattle.board.specs.State.{State}
+use Rattle.step.specs.Step.{left}
+use Rattle.sound.specs.Sound.{PhaseWithin}
+use Rattle.laws.specs.Tests.{either}
 
 -- the packets that carry out an upper result word: one where there are two words
 abbrev pub uppers : Command → ℕ
@@ -112,15 +112,15 @@ leaves-more w n more Reject l h = tt
 leaves-more w n more (Release low) l h = tt
 leaves-more w n more (Work c address value) l h = omega arith
 
-pub place-leaves : (w n : ℕ) (plan : Plan) (b : Board) (p : Place) (m : List ℕ) → PlanLeaves w n plan → toGo w (placeBy plan b p m .phase) ≤ n
-place-leaves w n (Hold phase) b p m h = h
-place-leaves w n Reject b p m h = zero-le
-place-leaves w n (Release low) b p m h = zero-le
-place-leaves w n (Work c address value) b p m h = omega (arith, work-to-go w c b m (p .pointer) address)
+pub place-leaves : (w n : ℕ) (plan : Plan) (s : State) → PlanLeaves w n plan → toGo w (left plan s .place .phase) ≤ n
+place-leaves w n (Hold phase) s h = h
+place-leaves w n Reject s h = zero-le
+place-leaves w n (Release low) s h = zero-le
+place-leaves w n (Work c address value) s h = omega (arith, work-to-go w c (s .board) (s .memory) (s .place .pointer) address)
 
-pub ready-leaves : (w left : ℕ) (c : Command) (address value : ℕ) → PlanLeaves w (left + uppers c) (workAfter left c address value)
+pub work-after-leaves : (w left : ℕ) (c : Command) (address value : ℕ) → PlanLeaves w (left + uppers c) (workAfter left c address value)
 unfolding workAfter
-ready-leaves w left c address value =
+work-after-leaves w left c address value =
     either (PlanLeaves w (left + uppers c)) (eqb left 0) (Work c address value) (Hold (Waiting c left address value)) (λ e. omega arith) (λ e. le-refl _)
 
 collected-leaves : (w left : ℕ) (c : Command) (t : Operands) → PlanLeaves w (left + waitsOf w c + uppers c) (collected w left c t)
@@ -128,7 +128,7 @@ unfolding collected
 collected-leaves w left c t =
     either (PlanLeaves w (left + waitsOf w c + uppers c)) (eqb left 0) (workAfter (waitsOf w c) c (addressIn (operandWords c) t) (valueIn (operandWords c) t)) (Hold (Due c left t))
     (λ e. leaves-more w (waitsOf w c + uppers c) (left + waitsOf w c + uppers c) (workAfter (waitsOf w c) c (addressIn (operandWords c) t) (valueIn (operandWords c) t)) (omega arith)
-    (ready-leaves w (waitsOf w c) c (addressIn (operandWords c) t) (valueIn (operandWords c) t)))
+    (work-after-leaves w (waitsOf w c) c (addressIn (operandWords c) t) (valueIn (operandWords c) t)))
     (λ e. le-refl _)
 
 pub continued-leaves : (c : Command) (left : ℕ) (t : Operands) (w word : ℕ) → PlanLeaves w (left - 1 + waitsOf w c + uppers c) (continued c left t w word)

@@ -9,9 +9,9 @@ use Rattle.bus.specs.declared.EventOutcome as events
 use Rattle.bus.specs.declared.BreakpointOutcome as breakpoints
 
 -- the PC handed out, or none
-abbrev pub capturedTold : Captured → List ℕ
-capturedTold Nothing = []
-capturedTold (Pc pc) = pc ∷ []
+abbrev pub toldCaptured : Captured → List ℕ
+toldCaptured Nothing = []
+toldCaptured (Pc pc) = pc ∷ []
 
 -- "level fired (0, 1, 2), halted by it, interrupt asked, PC captured"
 pub record EventTold : Type 0 where
@@ -21,10 +21,10 @@ pub record EventTold : Type 0 where
   pub interrupt : Bool
   pub captured : List ℕ
 
-abbrev pub eventTold : events.EventOutcome → EventTold
-eventTold (events.the-variants.Refused g) = record { refusal = refusalOf g; level = 0; halted = false; interrupt = false; captured = [] }
-eventTold (events.the-variants.Taken s) =
-    record { refusal = noRefusal; level = s .level; halted = s .halted; interrupt = s .interrupt; captured = capturedTold (s .captured) }
+abbrev pub toldEvent : events.EventOutcome → EventTold
+toldEvent (events.the-variants.Refused g) = record { refusal = refusalOf g; level = 0; halted = false; interrupt = false; captured = [] }
+toldEvent (events.the-variants.Taken s) =
+    record { refusal = noRefusal; level = s .level; halted = s .halted; interrupt = s .interrupt; captured = toldCaptured (s .captured) }
 
 -- "the breakpoint input's: the middle two"
 pub record BreakpointTold : Type 0 where
@@ -32,6 +32,6 @@ pub record BreakpointTold : Type 0 where
   pub halted : Bool
   pub interrupt : Bool
 
-abbrev pub breakpointTold : breakpoints.BreakpointOutcome → BreakpointTold
-breakpointTold (breakpoints.the-variants.Refused g) = record { refusal = refusalOf g; halted = false; interrupt = false }
-breakpointTold (breakpoints.the-variants.Taken p) = record { refusal = noRefusal; halted = p .halted; interrupt = p .interrupt }
+abbrev pub toldBreakpoint : breakpoints.BreakpointOutcome → BreakpointTold
+toldBreakpoint (breakpoints.the-variants.Refused g) = record { refusal = refusalOf g; halted = false; interrupt = false }
+toldBreakpoint (breakpoints.the-variants.Taken p) = record { refusal = noRefusal; halted = p .halted; interrupt = p .interrupt }
