@@ -5,29 +5,33 @@ use mathlib.Core.Bool.{Bool, true, false}
 use mathlib.Core.List.{List, [], _∷_, _++_}
 use Rattle.grounds.specs.Grounds.{noRefusal}
 use Rattle.memory.specs.Memory.{fetched, stored}
-use Rattle.command.specs.Command.{decoded, decodedWord}
+use Rattle.command.specs.declared.DebugRegister.{DebugRegister}
+use Rattle.command.specs.declared.DebugRegister.the-variants.{Aatr, Tdr, Pbr, Pbmr, Ablr}
+use Rattle.command.specs.Command.{decoded, decodedWord, debugNumber}
 use Rattle.board.specs.Board.{freshBoard, freshPlace}
 use Rattle.board.specs.Ranges.{inRange, bstatInRange}
+use Rattle.board.specs.State.{State}
 use Rattle.registers.specs.Csr.{csrValue, bstatRead}
-use Rattle.registers.specs.Registers.{debugLoaded, withDebugWritten, controlPlace, controlFetched, withControl}
+use Rattle.registers.specs.Registers.{debugLoaded, debugWritten, controlIndex, controlFetched, controlWritten}
 use Rattle.plan.specs.Plan.{workAfter, collected, begun, continued}
-use Rattle.port.specs.Packets.{planFor, replyNow, placeNext, boardNext, memoryNext, packetVerdict}
+use Rattle.step.specs.Step.{planFor, replyNow, stepped}
+use Rattle.port.specs.Packet.{packetVerdict}
 use Rattle.trigger.specs.declared.Event.{Event}
 use Rattle.trigger.specs.declared.Bus.the-variants.{Idle, Carries}
 use Rattle.trigger.specs.Masks.{agree}
 use Rattle.trigger.specs.Levels.{levelOf}
 use Rattle.trigger.specs.Groups.{pcGroup, addressMatches, attributeAgrees, dataEnabled, addressGroup, joined, fires, firedLevel}
 use Rattle.bus.specs.Firing.{bstatAfter, responds, firing, seen, statusAfter}
-use Rattle.bus.specs.Answers.{EventTold, eventTold}
+use Rattle.bus.specs.EventAnswers.{EventTold, toldEvent}
 use Rattle.bus.specs.Events.{eventVerdict, eventOutcome}
 use Rattle.trace.specs.Cycle.{givesOwn, after as afterCycle, carriedInto, value}
 use Rattle.trace.specs.Items.{itemsAt, itemsBefore, items, words}
 use Rattle.trace.specs.Examples.{p9}
-use Rattle.promises.specs.Machine.{State, standIn}
+use Rattle.promises.specs.Machine.{standIn}
 use Rattle.promises.specs.Environment.{handed}
 use Rattle.promises.specs.History.{Lent, Call, after, finds, made}
 use Rattle.promises.specs.History.Call.{event}
-use Rattle.promises.specs.Lending.{lent, noMemory, sends, replies}
+use Rattle.promises.specs.LendingLaws.{lent, noMemory, sends, replies}
 
 -- memory 00 to 0F
 abbrev pub sixteen : Lent
@@ -38,25 +42,25 @@ abbrev pub onFresh : ℕ → Lent → List ℕ → List ℕ
 onFresh w m words = replies (made w) (sends m words)
 
 -- WDMREG as packets: the command word, then the value, upper word first
-abbrev pub wdmreg : ℕ → ℕ → List ℕ → List ℕ
-wdmreg n value words = (0x2C80 + n) ∷ (value / 65536) ∷ (value % 65536) ∷ words
+abbrev pub wdmreg : DebugRegister → ℕ → List ℕ → List ℕ
+wdmreg r value words = (0x2C80 + debugNumber r) ∷ (value / 65536) ∷ (value % 65536) ∷ words
 
 abbrev pub start : ℕ → Event
 start pc = record { pc = pc; bus = Idle }
 
 abbrev pub toldOf : State → Event → EventTold
-toldOf s e = eventTold (eventOutcome (s .board) (s .place) e)
+toldOf s e = toldEvent (eventOutcome (s .board) (s .place) e)
 
 abbrev pub firedLevelAnswer : ℕ → Bool → EventTold
 firedLevelAnswer level halted = record { refusal = noRefusal; level = level; halted = halted; interrupt = false; captured = [] }
 
 -- "PBR 0x1000, PBMR 0xF, TDR 0x40002002, GO", all sent as packets
 abbrev pub p4Calls : List Call
-p4Calls = sends noMemory (wdmreg 0x08 0x1000 (wdmreg 0x09 0xF (wdmreg 0x07 0x40002002 (0x0C00 ∷ []))))
+p4Calls = sends noMemory (wdmreg Pbr 0x1000 (wdmreg Pbmr 0xF (wdmreg Tdr 0x40002002 (0x0C00 ∷ []))))
 
 -- "running, AATR 0x0005, TDR 0x20042002", and a PBR and an ABLR
 abbrev pub p5Calls : List Call
-p5Calls = sends noMemory (wdmreg 0x08 0x1000 (wdmreg 0x0D 0x2000 (wdmreg 0x06 0x0005 (wdmreg 0x07 0x20042002 (0x0C00 ∷ [])))))
+p5Calls = sends noMemory (wdmreg Pbr 0x1000 (wdmreg Ablr 0x2000 (wdmreg Aatr 0x0005 (wdmreg Tdr 0x20042002 (0x0C00 ∷ [])))))
 
 abbrev pub p5Event : Event
 p5Event = record { pc = 0x1000; bus = Carries (record { address = 0x2000; attribute = 0x05; lanes = 0 }) }
@@ -88,7 +92,7 @@ pub record ByEye : Type 0 where
   pub p9-items : words (items p9) ≡ (0 * 16 + 1) ∷ 0 ∷ (1 * 16 + 5) ∷ 0 ∷ (6 * 16 + 9) ∷ 4660 ∷ (6 * 16 + 1) ∷ 0 ∷ (7 * 16 + 15) ∷ 0 ∷ []
 
 pub by-eye : ByEye
-unfolding freshBoard freshPlace inRange bstatInRange fetched stored decoded decodedWord csrValue bstatRead debugLoaded withDebugWritten controlPlace controlFetched withControl workAfter collected begun continued planFor replyNow placeNext boardNext memoryNext packetVerdict agree levelOf pcGroup addressMatches attributeAgrees dataEnabled addressGroup joined fires firedLevel bstatAfter responds firing seen statusAfter eventVerdict givesOwn afterCycle carriedInto value itemsAt itemsBefore items handed after finds
+unfolding freshBoard freshPlace inRange bstatInRange fetched stored decoded decodedWord csrValue bstatRead debugLoaded debugWritten controlIndex controlFetched controlWritten workAfter collected begun continued planFor replyNow stepped packetVerdict agree levelOf pcGroup addressMatches attributeAgrees dataEnabled addressGroup joined fires firedLevel bstatAfter responds firing seen statusAfter eventVerdict givesOwn afterCycle carriedInto value itemsAt itemsBefore items handed after finds
 by-eye = record {
   p1 = refl;
   p2 = refl;
