@@ -1,13 +1,11 @@
 -- What the desk checks by eye (01): P1 to P9 in one statement, proved from the definitions by computation.
-use Prim.Native.Nat.{ℕ, _+_, _*_, _/_, _%_}
+use Prim.Native.Nat.{ℕ, _+_, _/_, _%_}
 use mathlib.Core.Path.{_≡_, refl}
-use mathlib.Core.Bool.{Bool, true, false}
+use mathlib.Core.Bool.{true, false}
 use mathlib.Core.List.{List, [], _∷_, _++_}
-use Rattle.grounds.specs.Grounds.{noRefusal}
 use Rattle.memory.specs.Memory.{fetched, stored}
-use Rattle.command.specs.declared.DebugRegister.{DebugRegister}
-use Rattle.command.specs.declared.DebugRegister.the-variants.{Aatr, Tdr, Pbr, Pbmr, Ablr}
 use Rattle.command.specs.Command.{decoded, decodedWord, debugNumber}
+use Rattle.command.specs.Reply.{complete}
 use Rattle.board.specs.Board.{freshBoard, freshPlace}
 use Rattle.board.specs.Ranges.{inRange, bstatInRange}
 use Rattle.board.specs.State.{State}
@@ -17,16 +15,17 @@ use Rattle.plan.specs.Plan.{workAfter, collected, begun, continued}
 use Rattle.step.specs.Step.{planFor, replyNow, stepped}
 use Rattle.port.specs.Packet.{packetVerdict}
 use Rattle.trigger.specs.declared.Event.{Event}
-use Rattle.trigger.specs.declared.Bus.the-variants.{Idle, Carries}
 use Rattle.trigger.specs.Masks.{agree}
 use Rattle.trigger.specs.Levels.{levelOf}
 use Rattle.trigger.specs.Groups.{pcGroup, addressMatches, attributeAgrees, dataEnabled, addressGroup, joined, fires, firedLevel}
 use Rattle.bus.specs.Firing.{bstatAfter, responds, firing, seen, statusAfter}
 use Rattle.bus.specs.EventAnswers.{EventTold, toldEvent}
 use Rattle.bus.specs.Events.{eventVerdict, eventOutcome}
+use Rattle.bus.specs.EventExamples.{Setting, fired, p4Settings, p4Outside, p4Inside, p4Csr, p5Settings, p5Event}
+use Rattle.run.specs.PacketExamples.{sixteen, p1Words, p1Replies, p2Words, p2Replies, p3Words, p3Replies, p6Words, p6Replies, p7Words, p7Replies, p8Words, p8Replies}
 use Rattle.trace.specs.Cycle.{givesOwn, after as afterCycle, carriedInto, value}
 use Rattle.trace.specs.Items.{itemsAt, itemsBefore, items, words}
-use Rattle.trace.specs.Examples.{p9}
+use Rattle.trace.specs.Examples.{p9, p9Words}
 use Rattle.promises.specs.Machine.{standIn}
 use Rattle.promises.specs.Environment.{handed}
 use Rattle.promises.specs.History.{Lent, Call, after, finds, made}
@@ -34,62 +33,58 @@ use Rattle.promises.specs.History.Call.{event}
 use Rattle.promises.specs.LendingLaws.{lent, noMemory, sends, replies}
 
 -- memory 00 to 0F
-abbrev pub sixteen : Lent
-sixteen = lent (0 ∷ 1 ∷ 2 ∷ 3 ∷ 4 ∷ 5 ∷ 6 ∷ 7 ∷ 8 ∷ 9 ∷ 10 ∷ 11 ∷ 12 ∷ 13 ∷ 14 ∷ 15 ∷ []) refl
+abbrev pub bytesToF : Lent
+bytesToF = lent sixteen refl
 
 -- the replies on a fresh board
 abbrev pub onFresh : ℕ → Lent → List ℕ → List ℕ
 onFresh w m words = replies (made w) (sends m words)
 
 -- WDMREG as packets: the command word, then the value, upper word first
-abbrev pub wdmreg : DebugRegister → ℕ → List ℕ → List ℕ
-wdmreg r value words = (0x2C80 + debugNumber r) ∷ (value / 65536) ∷ (value % 65536) ∷ words
-
-abbrev pub start : ℕ → Event
-start pc = record { pc = pc; bus = Idle }
+abbrev pub wdmregs : List Setting → List ℕ → List ℕ
+wdmregs [] words = words
+wdmregs (s ∷ ss) words = (0x2C80 + debugNumber (s .register)) ∷ (s .value / 65536) ∷ (s .value % 65536) ∷ wdmregs ss words
 
 abbrev pub toldOf : State → Event → EventTold
 toldOf s e = toldEvent (eventOutcome (s .board) (s .place) e)
 
-abbrev pub firedLevelAnswer : ℕ → Bool → EventTold
-firedLevelAnswer level halted = record { refusal = noRefusal; level = level; halted = halted; interrupt = false; captured = [] }
-
--- "PBR 0x1000, PBMR 0xF, TDR 0x40002002, GO", all sent as packets
+-- the registers written, then GO, all sent as packets
 abbrev pub p4Calls : List Call
-p4Calls = sends noMemory (wdmreg Pbr 0x1000 (wdmreg Pbmr 0xF (wdmreg Tdr 0x40002002 (0x0C00 ∷ []))))
+p4Calls = sends noMemory (wdmregs p4Settings (0x0C00 ∷ []))
 
--- "running, AATR 0x0005, TDR 0x20042002", and a PBR and an ABLR
+-- with a PBR and an ABLR
 abbrev pub p5Calls : List Call
-p5Calls = sends noMemory (wdmreg Pbr 0x1000 (wdmreg Ablr 0x2000 (wdmreg Aatr 0x0005 (wdmreg Tdr 0x20042002 (0x0C00 ∷ [])))))
+p5Calls = sends noMemory (wdmregs (p5Settings 0x1000 0x2000) (0x0C00 ∷ []))
 
-abbrev pub p5Event : Event
-p5Event = record { pc = 0x1000; bus = Carries (record { address = 0x2000; attribute = 0x05; lanes = 0 }) }
+abbrev pub p5Seen : Call
+p5Seen = event (p5Event 0x1000 0x2000 0)
 
 pub record ByEye : Type 0 where
   -- P1: W=1, memory 00 to 0F, fresh: a longword READ at 4.
-  pub p1 : onFresh 1 sixteen (0x1980 ∷ 0 ∷ 4 ∷ 0 ∷ 0 ∷ 0 ∷ []) ≡ 0x0FFFF ∷ 0x10000 ∷ 0x10000 ∷ 0x10000 ∷ 0x00405 ∷ 0x00607 ∷ []
+  pub p1 : onFresh 1 bytesToF p1Words ≡ p1Replies
   -- P2: then a byte DUMP.
-  pub p2 : replies (after standIn (made 1) (sends sixteen (0x1980 ∷ 0 ∷ 4 ∷ 0 ∷ 0 ∷ 0 ∷ []))) (sends sixteen (0x1D00 ∷ 0 ∷ 0 ∷ [])) ≡ 0x0FFFF ∷ 0x10000 ∷ 0x00008 ∷ []
-  -- P3: fresh, RDMREG CSR gives 0x01100000, again 0x00100000.
-  pub p3 : onFresh 0 noMemory (0x2D80 ∷ 0 ∷ 0x2D80 ∷ 0 ∷ 0 ∷ []) ≡ 0x0FFFF ∷ 0x00110 ∷ 0x00000 ∷ 0x00010 ∷ 0x00000 ∷ []
+  pub p2 : replies (after standIn (made 1) (sends bytesToF p1Words)) (sends bytesToF p2Words) ≡ p2Replies
+  -- P3: fresh, RDMREG CSR, and again.
+  pub p3 : onFresh 0 noMemory p3Words ≡ p3Replies
   -- P4: PC 0x1010 doesn't fire,
-  pub p4-outside : toldOf (after standIn (made 0) p4Calls) (start 0x1010) ≡ firedLevelAnswer 0 false
+  pub p4-outside : toldOf (after standIn (made 0) p4Calls) p4Outside ≡ fired 0 false
   -- 0x100E does;
-  pub p4-inside : toldOf (after standIn (made 0) (p4Calls ++ (event (start 0x1010) ∷ []))) (start 0x100E) ≡ firedLevelAnswer 1 true
+  pub p4-inside : toldOf (after standIn (made 0) (p4Calls ++ (event p4Outside ∷ []))) p4Inside ≡ fired 1 true
   -- CSR is 0x24100000, read as packets.
-  pub p4-csr : replies (after standIn (made 0) (p4Calls ++ (event (start 0x1010) ∷ event (start 0x100E) ∷ []))) (sends noMemory (0x2D80 ∷ 0 ∷ 0 ∷ [])) ≡ 0x0FFFF ∷ 0x02410 ∷ 0x00000 ∷ []
+  pub p4-csr : replies (after standIn (made 0) (p4Calls ++ (event p4Outside ∷ event p4Inside ∷ []))) (sends noMemory (0x2D80 ∷ 0 ∷ 0 ∷ []))
+      ≡ complete ∷ p4Csr / 65536 ∷ p4Csr % 65536 ∷ []
   -- P5: the event twice gives BSTAT 5,
-  pub p5-first : after standIn (made 0) (p5Calls ++ (event p5Event ∷ [])) .board .status .bstat ≡ 5
+  pub p5-first : after standIn (made 0) (p5Calls ++ (p5Seen ∷ [])) .board .status .bstat ≡ 5
   -- then 6.
-  pub p5-then : after standIn (made 0) (p5Calls ++ (event p5Event ∷ event p5Event ∷ [])) .board .status .bstat ≡ 6
-  -- P6: empty memory: byte READ at 0 closes with 0x10001.
-  pub p6 : onFresh 0 noMemory (0x1900 ∷ 0 ∷ 0 ∷ 0 ∷ []) ≡ 0x0FFFF ∷ 0x10000 ∷ 0x10000 ∷ 0x10001 ∷ []
+  pub p5-then : after standIn (made 0) (p5Calls ++ (p5Seen ∷ p5Seen ∷ [])) .board .status .bstat ≡ 6
+  -- P6: empty memory: byte READ at 0 closes with a bus error.
+  pub p6 : onFresh 0 noMemory p6Words ≡ p6Replies
   -- P7: FILL after READ is illegal.
-  pub p7 : onFresh 0 sixteen (0x1900 ∷ 0 ∷ 0 ∷ 0x1C00 ∷ 0 ∷ []) ≡ 0x0FFFF ∷ 0x10000 ∷ 0x10000 ∷ 0x00000 ∷ 0x1FFFF ∷ []
+  pub p7 : onFresh 0 bytesToF p7Words ≡ p7Replies
   -- P8: 0x19C0 is illegal.
-  pub p8 : onFresh 0 noMemory (0x19C0 ∷ 0 ∷ []) ≡ 0x0FFFF ∷ 0x1FFFF ∷ []
-  -- P9: cycles 10 50 90 04 03 02 11 F0 F0 give five items, each cycle times 16 plus code, and value.
-  pub p9-items : words (items p9) ≡ (0 * 16 + 1) ∷ 0 ∷ (1 * 16 + 5) ∷ 0 ∷ (6 * 16 + 9) ∷ 4660 ∷ (6 * 16 + 1) ∷ 0 ∷ (7 * 16 + 15) ∷ 0 ∷ []
+  pub p8 : onFresh 0 noMemory p8Words ≡ p8Replies
+  -- P9: five items, each cycle times 16 plus code, and value.
+  pub p9-items : words (items p9) ≡ p9Words
 
 pub by-eye : ByEye
 unfolding freshBoard freshPlace inRange bstatInRange fetched stored decoded decodedWord csrValue bstatRead debugLoaded debugWritten controlIndex controlFetched controlWritten workAfter collected begun continued planFor replyNow stepped packetVerdict agree levelOf pcGroup addressMatches attributeAgrees dataEnabled addressGroup joined fires firedLevel bstatAfter responds firing seen statusAfter eventVerdict givesOwn afterCycle carriedInto value itemsAt itemsBefore items handed after finds
