@@ -29,9 +29,9 @@ use Rattle.registers.specs.Registers.{controlPlace, controlListed, controlFetch
 use Rattle.requests.specs.declared.Request.the-variants.{Wdmreg}
 use Rattle.requests.specs.declared.ResultKind.{ResultKind}
 use Rattle.requests.specs.declared.ResultKind.the-variants.{NoResult, OfSize}
-use Rattle.requests.specs.declared.Outcome.the-variants.{Value}
-use Rattle.requests.specs.Meant.{debugRows}
-use Rattle.requests.specs.CountLaws.{found-has}
+use Rattle.readings.specs.declared.Outcome.the-variants.{Value}
+use Rattle.pod_laws.specs.MeantCommand.{debugRows}
+use Rattle.pod_laws.specs.RequestCountLaws.{found-has}
 use Rattle.trip.specs.Meaning.{Scene, Meaning, meaning, reads, writes, readsControl, writesControl}
 use Rattle.trip.specs.Exchange.{sceneOf}
 use Rattle.trip.specs.ClosingLaws.{outcomeOf, Fits}

@@ -1,0 +1,9 @@
+pub mod MeantCommand
+pub mod MeantCommandLaws
+pub mod RequestCountLaws
+pub mod ClearLaws
+pub mod ReplyLaws
+pub mod NotYetLaws
+pub mod BuildingUnique
+pub mod ReadingUnique
+pub mod PodExamples
