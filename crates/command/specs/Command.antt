@@ -62,7 +62,23 @@ pub record Row : Type 0 where
 abbrev pub row : ℕ → Command → Row
 row w c = record { word = w; command = c }
 
--- the words of the table but for the two ranges of RDREG/RAREG and WDREG/WAREG; RDMREG takes n = 0, WDMREG the ten registers listed
+-- WDMREG "takes 0x00 CSR, 0x05 BAAR, 0x06 AATR, 0x07 TDR, 0x08 PBR, 0x09 PBMR, 0x0C ABHR, 0x0D ABLR, 0x0E DBR, 0x0F DBMR"
+abbrev pub debugNumber : DebugRegister → ℕ
+debugNumber Csr = 0x00
+debugNumber Baar = 0x05
+debugNumber Aatr = 0x06
+debugNumber Tdr = 0x07
+debugNumber Pbr = 0x08
+debugNumber Pbmr = 0x09
+debugNumber Abhr = 0x0C
+debugNumber Ablr = 0x0D
+debugNumber Dbr = 0x0E
+debugNumber Dbmr = 0x0F
+
+abbrev pub wdmregRow : DebugRegister → Row
+wdmregRow r = row (0x2C80 + debugNumber r) (wdmreg r)
+
+-- the words of the table but for the two ranges of RDREG/RAREG and WDREG/WAREG; RDMREG takes n = 0
 abbrev pub table : List Row
 table =
     row 0x1900 (read Byte)
@@ -83,16 +99,16 @@ table =
     ∷ row 0x2980 rcreg
     ∷ row 0x2880 wcreg
     ∷ row 0x2D80 rdmreg
-    ∷ row 0x2C80 (wdmreg Csr)
-    ∷ row 0x2C85 (wdmreg Baar)
-    ∷ row 0x2C86 (wdmreg Aatr)
-    ∷ row 0x2C87 (wdmreg Tdr)
-    ∷ row 0x2C88 (wdmreg Pbr)
-    ∷ row 0x2C89 (wdmreg Pbmr)
-    ∷ row 0x2C8C (wdmreg Abhr)
-    ∷ row 0x2C8D (wdmreg Ablr)
-    ∷ row 0x2C8E (wdmreg Dbr)
-    ∷ row 0x2C8F (wdmreg Dbmr)
+    ∷ wdmregRow Csr
+    ∷ wdmregRow Baar
+    ∷ wdmregRow Aatr
+    ∷ wdmregRow Tdr
+    ∷ wdmregRow Pbr
+    ∷ wdmregRow Pbmr
+    ∷ wdmregRow Abhr
+    ∷ wdmregRow Ablr
+    ∷ wdmregRow Dbr
+    ∷ wdmregRow Dbmr
     ∷ []
 
 -- "Any other word" is no command

@@ -1,2 +1,3 @@
 pub mod Command
 pub mod CommandLaws
+pub mod Reply
