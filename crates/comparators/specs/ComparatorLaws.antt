@@ -1,12 +1,13 @@
 -- Laws of the ED comparators: one agrees exactly where the data and DBR have the same bits, on its lanes, where DBMR is 0.
 use Prim.Native.Nat.{ℕ, zero, suc, _-_, _/_, _%_, _^_, _<_, _≤_, max}
-use mathlib.Core.Path.{_≡_, refl, sym, ap, _∙_}
-use mathlib.Core.Bool.{Bool, true, false, not}
+use mathlib.Core.Path.{_≡_, sym, ap, _∙_}
+use mathlib.Core.Bool.{true, false, not}
 use lib.Dec.{eqb}
 use lib.Bits.{bitOr, or-lt, and-le-l}
 use native.Mathlib.Nat.{max-eq-left, max-eq-right}
 use borrow.Author.Tests.{eqb-true, eqb-false, eq-eqb, ne-eqb, not-false}
 use native.Mathlib.Omega.{arith}
+use Rattle.laws.specs.Tests.{by-test}
 use Rattle.board.specs.declared.Debug.{Debug}
 use Rattle.comparators.specs.declared.BusAccess.{BusAccess}
 use Rattle.comparators.specs.Masks.{bit}
@@ -17,11 +18,11 @@ use Rattle.comparators.specs.Comparators.{dataAgrees}
 -- a lane is among the others exactly where it is not among these, at any width n
 others-bit : (n k lanes : ℕ) → lanes < 2 ^ n → k < n → bit k (2 ^ n - 1 - lanes) ≡ not (bit k lanes)
 others-bit zero k lanes small below = absurd (omega arith)
-others-bit (suc n) zero lanes small below = by-test (bit 0 lanes) refl
-  where
-    by-test : (t : Bool) → bit 0 lanes ≡ t → bit 0 (2 ^ suc n - 1 - lanes) ≡ not (bit 0 lanes)
-    by-test true p = ne-eqb ((2 ^ suc n - 1 - lanes) / 2 ^ 0 % 2) 1 (λ (e : (2 ^ suc n - 1 - lanes) / 2 ^ 0 % 2 ≡ 1). omega (arith, eqb-true (lanes / 2 ^ 0 % 2) 1 p, e)) ∙ sym (ap not p)
-    by-test false p = eq-eqb ((2 ^ suc n - 1 - lanes) / 2 ^ 0 % 2) 1 (omega (arith, no-one (lanes / 2 ^ 0) p)) ∙ sym (ap not p)
+others-bit (suc n) zero lanes small below =
+    let digit = (2 ^ suc n - 1 - lanes) / 2 ^ 0 % 2 in
+    by-test (bit 0 lanes)
+    (λ p. ne-eqb digit 1 (λ (e : digit ≡ 1). omega (arith, eqb-true (lanes / 2 ^ 0 % 2) 1 p, e)) ∙ sym (ap not p))
+    (λ p. eq-eqb digit 1 (omega (arith, no-one (lanes / 2 ^ 0) p)) ∙ sym (ap not p))
 others-bit (suc n) (suc k) lanes small below =
     sym (bit-of-half k (2 ^ suc n - 1 - lanes)) ∙ ap (bit k) half ∙ others-bit n k (lanes / 2) (omega arith) (omega arith) ∙ ap not (bit-of-half k lanes)
   where
@@ -51,7 +52,8 @@ read-is-small access given = omega (arith, and-le-l (access .lanes) (carriedLane
 pub bits-then-comparator : (lanes : ℕ) (d : Debug) (access : BusAccess) → lanes < 2 ^ 32 → d .dbmr < 2 ^ 32 → d .dbr < 2 ^ 32 → access .lanes < 2 ^ 32
     → ((k : ℕ) → k < 32 → bit k lanes ≡ true → bit k (d .dbmr) ≡ false → bit k (lanesRead access) ≡ bit k (d .dbr)) → dataAgrees lanes d access ≡ true
 bits-then-comparator lanes d access small mask pattern given same =
-    bits-then-agree 32 (bitOr (d .dbmr) (0xFFFFFFFF - lanes)) (lanesRead access) (d .dbr) (or-lt 32 (d .dbmr) (0xFFFFFFFF - lanes) mask (omega arith)) (read-is-small access given) pattern
+    let others = 0xFFFFFFFF - lanes in
+    bits-then-agree 32 (bitOr (d .dbmr) others) (lanesRead access) (d .dbr) (or-lt 32 (d .dbmr) others mask (omega arith)) (read-is-small access given) pattern
     (λ k below free.
     let off = neither k (d .dbmr) (0xFFFFFFFF - lanes) free in
     same k below (not-false (bit k lanes) (sym (others-bit 32 k lanes small below) ∙ off .1)) (off .0))

@@ -1,12 +1,13 @@
 -- Laws of the masked comparison: two numbers agree under a mask exactly where their bits that the mask leaves are the same.
 use Prim.Native.Nat.{ℕ, zero, suc, _/_, _%_, _^_, _<_, max}
-use mathlib.Core.Path.{_≡_, refl, sym, ap, _∙_}
-use mathlib.Core.Bool.{Bool, true, false}
+use mathlib.Core.Path.{_≡_, sym, ap, _∙_}
+use mathlib.Core.Bool.{true, false}
 use lib.Dec.{eqb}
 use lib.Bits.{bitOr, or-step, or-shr}
 use borrow.Author.Tests.{eqb-true, eqb-false, eq-eqb}
 use native.Mathlib.Nat.{max-zero, max-le, max-eq-right, div-div-eq-div-mul, pow-succ'}
 use native.Mathlib.Omega.{arith}
+use Rattle.laws.specs.Tests.{by-test}
 use Rattle.comparators.specs.Masks.{bit, agree}
 
 or-low : (a m : ℕ) → bitOr a m % 2 ≡ max (a % 2) (m % 2)
@@ -33,21 +34,17 @@ pub bit-of-half : (k n : ℕ) → bit k (n / 2) ≡ bit (suc k) n
 bit-of-half k n = ap (λ (x : ℕ). eqb (x % 2) 1) (div-div-eq-div-mul n 2 (2 ^ k) ∙ ap (λ (x : ℕ). n / x) (sym (pow-succ' 2 k)))
 
 same-digit : (a b : ℕ) → eqb (a % 2) 1 ≡ eqb (b % 2) 1 → a % 2 ≡ b % 2
-same-digit a b e = by-test (eqb (a % 2) 1) refl
-  where
-    by-test : (t : Bool) → eqb (a % 2) 1 ≡ t → a % 2 ≡ b % 2
-    by-test true p = eqb-true _ _ p ∙ sym (eqb-true _ _ (sym e ∙ p))
-    by-test false p = no-one a p ∙ sym (no-one b (sym e ∙ p))
+same-digit a b e =
+    by-test (eqb (a % 2) 1) (λ p. eqb-true _ _ p ∙ sym (eqb-true _ _ (sym e ∙ p))) (λ p. no-one a p ∙ sym (no-one b (sym e ∙ p)))
 
 -- the lowest digits, with the mask's set
 same-low : (m a b : ℕ) → (bit 0 m ≡ false → bit 0 a ≡ bit 0 b) → max (a % 2) (m % 2) ≡ max (b % 2) (m % 2)
-same-low m a b same = by-test (bit 0 m) refl
-  where
-    by-test : (t : Bool) → bit 0 m ≡ t → max (a % 2) (m % 2) ≡ max (b % 2) (m % 2)
-    by-test true p =
-        let one : m % 2 ≡ 1 = omega (arith, eqb-true (m / 2 ^ 0 % 2) 1 p) in
-        max-eq-right {n = a % 2} {m = m % 2} (omega arith) ∙ sym (max-eq-right {n = b % 2} {m = m % 2} (omega arith))
-    by-test false p = let low : a % 2 ≡ b % 2 = omega (arith, same-digit (a / 2 ^ 0) (b / 2 ^ 0) (same p)) in ap (λ (x : ℕ). max x (m % 2)) low
+same-low m a b same =
+    by-test (bit 0 m)
+    (λ p.
+    let one : m % 2 ≡ 1 = omega (arith, eqb-true (m / 2 ^ 0 % 2) 1 p) in
+    max-eq-right {n = a % 2} {m = m % 2} (omega arith) ∙ sym (max-eq-right {n = b % 2} {m = m % 2} (omega arith)))
+    (λ p. let low : a % 2 ≡ b % 2 = omega (arith, same-digit (a / 2 ^ 0) (b / 2 ^ 0) (same p)) in ap (λ (x : ℕ). max x (m % 2)) low)
 
 same-or : (n m a b : ℕ) → m < 2 ^ n → a < 2 ^ n → b < 2 ^ n → ((k : ℕ) → k < n → bit k m ≡ false → bit k a ≡ bit k b) → bitOr a m ≡ bitOr b m
 same-or zero m a b hm ha hb same = let z : a ≡ b = omega arith in rw z

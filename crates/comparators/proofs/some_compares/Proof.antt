@@ -26,7 +26,16 @@ compares-requires-7 c κs = search needs
 
 returns : tie.Need-returns
 unfolding someComparator
-returns c = rw (← c .before .before .before .before .before .before .compares .ensures, ← c .before .before .before .before .before .compares2 .ensures, ← c .before .before .before .before .compares3 .ensures, ← c .before .before .before .compares4 .ensures, ← c .before .before .compares5 .ensures, ← c .before .compares6 .ensures, ← c .compares7 .ensures)
+returns c =
+    rw (
+      ← c .before .before .before .before .before .before .compares .ensures,
+      ← c .before .before .before .before .before .compares2 .ensures,
+      ← c .before .before .before .before .compares3 .ensures,
+      ← c .before .before .before .compares4 .ensures,
+      ← c .before .before .compares5 .ensures,
+      ← c .before .compares6 .ensures,
+      ← c .compares7 .ensures,
+    )
 
 pub some-compares-spec : {M : Type 1} → statement M
 some-compares-spec =
