@@ -16,5 +16,7 @@ told-built-unique (RefusedToBuild g) (Words n) e = absurd (number-is-not-zero g 
 told-built-unique (RefusedToBuild g) (RefusedToBuild h) e = ap RefusedToBuild (same-number-same-ground g h (ap (λ (p : BuiltOnPaper). p .refusal .number) e))
 
 -- no second answer and no second buffer fits
-pub building-unique : {request : Request} {before : List ℕ} {r s : Built} {after after′ : List ℕ} → BuildingMeets request before r after → BuildingMeets request before s after′ → (r ≡ s) × (after ≡ after′)
+pub building-unique : {request : Request} {before : List ℕ} {r s : Built} {after after′ : List ℕ} → BuildingMeets request before r after
+    → BuildingMeets request before s after′
+    → (r ≡ s) × (after ≡ after′)
 building-unique {request} {before} {r} {s} f g = (told-built-unique r s (f .answer ∙ sym (g .answer)), f .buffer ∙ sym (g .buffer))

@@ -1,7 +1,6 @@
 pub mod MeantCommand
 pub mod MeantCommandLaws
 pub mod RequestCountLaws
-pub mod ClearLaws
 pub mod ReplyLaws
 pub mod NotYetLaws
 pub mod BuildingUnique

@@ -4,6 +4,7 @@ use mathlib.Core.Path.{_≡_, refl, ap, sym, _∙_}
 use mathlib.Core.Bool.{cond}
 use mathlib.Core.List.{List}
 use lib.Dec.{eqb}
+use Rattle.command.specs.Reply.{complete, notReady, busError, illegal}
 use Rattle.grounds.specs.GroundLaws.{same-number-same-ground, number-is-not-zero}
 use Rattle.requests.specs.declared.Request.{Request}
 use Rattle.readings.specs.declared.Outcome.{Outcome}
@@ -15,9 +16,10 @@ use Rattle.readings.specs.Reading.{ReadingOnPaper, toldReading, ReadingMeets}
 -- an answer that is no refusal, back from what it says on paper
 abbrev meant : ReadingOnPaper → Reading
 meant p =
-    cond (eqb (p .reply) 0x10000) (NotYet (p .words))
-    (cond (eqb (p .reply) 0x0FFFF) (Ended Complete (p .words))
-    (cond (eqb (p .reply) 0x10001) (Ended BusError (p .words)) (cond (eqb (p .reply) 0x1FFFF) (Ended Illegal (p .words)) (Ended (Value (p .value)) (p .words)))))
+    cond (eqb (p .reply) notReady) (NotYet (p .words))
+    (cond (eqb (p .reply) complete) (Ended Complete (p .words))
+    (cond (eqb (p .reply) busError) (Ended BusError (p .words))
+    (cond (eqb (p .reply) illegal) (Ended Illegal (p .words)) (Ended (Value (p .value)) (p .words)))))
 
 back : (outcome : Outcome) (n : ℕ) → meant (toldReading (Ended outcome n)) ≡ Ended outcome n
 back (Value value) n = refl

@@ -5,6 +5,7 @@ use mathlib.Core.List.{List, [], _∷_}
 use lib.Dec.{eqb, leb}
 use Rattle.memory.specs.declared.Size.{Size}
 use Rattle.memory.specs.declared.Size.the-variants.{Byte, Word, Long}
+use Rattle.command.specs.Reply.{complete, notReady, busError, illegal}
 use Rattle.grounds.specs.declared.Ground.the-variants.{WordTooLarge, ImpossibleReply}
 use Rattle.requests.specs.declared.ResultKind.{ResultKind}
 use Rattle.requests.specs.declared.ResultKind.the-variants.{NoResult, OfSize}
@@ -20,12 +21,13 @@ resultWord Long reply = Second reply
 
 -- "S=0 other than 0xFFFF for a command without result is 14"
 abbrev pub dataReply : ResultKind → ℕ → Reader
-dataReply NoResult reply = cond (eqb reply 0xFFFF) (Closed Complete) (Bad ImpossibleReply)
+dataReply NoResult reply = cond (eqb reply complete) (Closed Complete) (Bad ImpossibleReply)
 dataReply (OfSize size) reply = resultWord size reply
 
 -- "skips 0x10000 before the first result word"; "0x10001 bus error; 0x1FFFF illegal"; "S=1 data not in the list .. is 14"
 abbrev pub statusReply : ℕ → Reader
-statusReply reply = cond (eqb reply 0x10000) First (cond (eqb reply 0x10001) (Closed BusError) (cond (eqb reply 0x1FFFF) (Closed Illegal) (Bad ImpossibleReply)))
+statusReply reply =
+    cond (eqb reply notReady) First (cond (eqb reply busError) (Closed BusError) (cond (eqb reply illegal) (Closed Illegal) (Bad ImpossibleReply)))
 
 -- S is bit 16
 abbrev pub firstReply : ResultKind → ℕ → Reader

@@ -41,7 +41,8 @@ from-done k d n rs h = rw (done-stays k d rs h, done-uses-none k d rs h, add-zer
 pub from-past : (k : ResultKind) (d : Reader) (i : ℕ) (rs : List ℕ) → length rs ≤ i → readingFrom k d i (drop i rs) ≡ answered d i
 from-past k d i rs h = rw (drop-of-length-le rs h, add-zero i)
 
-pub from-next : (k : ResultKind) (d : Reader) (i : ℕ) (rs : List ℕ) → i < length rs → done d ≡ false → readingFrom k d i (drop i rs) ≡ readingFrom k (afterReply k d (getD rs i 0)) (i + 1) (drop (i + 1) rs)
+pub from-next : (k : ResultKind) (d : Reader) (i : ℕ) (rs : List ℕ) → i < length rs → done d ≡ false
+    → readingFrom k d i (drop i rs) ≡ readingFrom k (afterReply k d (getD rs i 0)) (i + 1) (drop (i + 1) rs)
 from-next k d i rs h more =
     let rest = drop (suc i) rs in
     let d′ = afterReply k d (getD rs i 0) in

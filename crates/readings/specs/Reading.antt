@@ -3,6 +3,7 @@ use Prim.Native.Nat.{ℕ}
 use mathlib.Core.Path.{_≡_}
 use mathlib.Core.Bool.{cond}
 use mathlib.Core.List.{List}
+use Rattle.command.specs.Reply.{complete, notReady, busError, illegal}
 use Rattle.grounds.specs.declared.Ground.the-variants.{RequestOutOfRange}
 use Rattle.grounds.specs.Grounds.{Refusal, noRefusal, refusalOf}
 use Rattle.requests.specs.declared.Request.{Request}
@@ -41,9 +42,9 @@ pub record ReadingOnPaper : Type 0 where
 -- "S=0 with data, or 0x0FFFF complete; .. 0x10001 bus error; 0x1FFFF illegal"
 abbrev pub outcomeReply : Outcome → ℕ
 outcomeReply (Value value) = 0
-outcomeReply Complete = 0x0FFFF
-outcomeReply BusError = 0x10001
-outcomeReply Illegal = 0x1FFFF
+outcomeReply Complete = complete
+outcomeReply BusError = busError
+outcomeReply Illegal = illegal
 
 abbrev pub outcomeValue : Outcome → ℕ
 outcomeValue (Value value) = value
@@ -53,7 +54,7 @@ outcomeValue Illegal = 0
 
 abbrev pub toldReading : Reading → ReadingOnPaper
 toldReading (Ended outcome n) = record { refusal = noRefusal; reply = outcomeReply outcome; value = outcomeValue outcome; words = n }
-toldReading (NotYet n) = record { refusal = noRefusal; reply = 0x10000; value = 0; words = n }
+toldReading (NotYet n) = record { refusal = noRefusal; reply = notReady; value = 0; words = n }
 toldReading (Refused ground) = record { refusal = refusalOf ground; reply = 0; value = 0; words = 0 }
 
 -- the promise of reading

@@ -23,7 +23,7 @@ use Rattle.readings.specs.declared.Outcome.the-variants.{Value, Complete, BusEr
 use Rattle.readings.specs.declared.Reader.{Reader}
 use Rattle.readings.specs.declared.Reader.the-variants.{First, Second, Closed}
 use Rattle.readings.specs.Reader.{afterReply, afterReplies, done, used}
-use Rattle.pod_laws.specs.ClearLaws.{Clear}
+use Rattle.building.specs.RequestWordLaws.{Clear}
 use Rattle.pod_laws.specs.ReplyLaws.{after-byte, after-word, after-upper, after-lower}
 use Rattle.trip.specs.Meaning.{Scene}
 use Rattle.trip.specs.Exchange.{nops, resting, closingReplies}

@@ -15,7 +15,7 @@ use Rattle.readings.specs.declared.Outcome.the-variants.{Illegal}
 use Rattle.readings.specs.declared.Reader.the-variants.{First}
 use Rattle.requests.specs.Request.{inRange, kindOf}
 use Rattle.building.specs.RequestWords.{commandWord, operands, builtWords}
-use Rattle.pod_laws.specs.ClearLaws.{operands-clear}
+use Rattle.building.specs.RequestWordLaws.{operands-clear}
 use Rattle.pod_laws.specs.MeantCommand.{commandOf}
 use Rattle.pod_laws.specs.MeantCommandLaws.{decoded-as-meant}
 use Rattle.pod_laws.specs.RequestCountLaws.{operand-count}

@@ -16,7 +16,7 @@ use Rattle.readings.specs.declared.Reader.{Reader}
 use Rattle.readings.specs.declared.Reader.the-variants.{First}
 use Rattle.requests.specs.Request.{inRange, kindOf}
 use Rattle.building.specs.RequestWords.{commandWord, builtWords}
-use Rattle.pod_laws.specs.ClearLaws.{Clear, built-clear}
+use Rattle.building.specs.RequestWordLaws.{Clear, built-clear}
 use Rattle.readings.specs.Reader.{afterReply, done}
 use Rattle.trip.specs.Exchange.{rested, restNops, restBudget, Talk, talk, talked, talkBudget, exchanged}
 use Rattle.trip.specs.RestLaws.{comes-to-rest}
