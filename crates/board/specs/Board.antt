@@ -6,9 +6,9 @@ use lib.Dec.{leb}
 use lib.ListN.{replicate}
 use Rattle.grounds.specs.declared.Ground.the-variants.{WaitTooLarge}
 use Rattle.grounds.specs.declared.Verdict.{Verdict}
-use mathlib.Core.Path.{_≡_, ap, sym, _∙_}
+use mathlib.Core.Path.{_≡_}
 use Rattle.grounds.specs.Grounds.{check, judge, told}
-use Rattle.grounds.specs.GroundLaws.{told-once}
+use Rattle.command.specs.Reply.{complete}
 use Rattle.board.specs.declared.Board.{Board}
 use Rattle.board.specs.declared.Place.{Place}
 use Rattle.board.specs.declared.Made.{Made}
@@ -26,7 +26,7 @@ freshBoard w = record {
 }
 
 unfoldable pub freshPlace : Place
-freshPlace = record { phase = Rest; chain = Off; pointer = 0; next = 0x0FFFF }
+freshPlace = record { phase = Rest; chain = Off; pointer = 0; next = complete }
 
 -- "at rest"
 abbrev pub atRest : Phase → Bool
@@ -48,10 +48,3 @@ pub record MakingMeets (w : ℕ) (r : Made) : Type 0 where
   pub answer : told (r .verdict) ≡ told (makingVerdict w)
   pub board : r .board ≡ freshBoard (settingMade w)
   pub place : r .place ≡ freshPlace
-
--- no second answer fits
-pub making-unique : {w : ℕ} {r s : Made} → MakingMeets w r → MakingMeets w s → r ≡ s
-making-unique {w} {r} {s} f g =
-    ap (λ v. record { verdict = v; board = r .board; place = r .place }) (told-once (r .verdict) (s .verdict) (f .answer ∙ sym (g .answer)))
-    ∙ ap (λ b. record { verdict = s .verdict; board = b; place = r .place }) (f .board ∙ sym (g .board))
-    ∙ ap (λ p. record { verdict = s .verdict; board = s .board; place = p }) (f .place ∙ sym (g .place))

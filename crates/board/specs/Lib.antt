@@ -1,2 +1,5 @@
 pub mod Board
+pub mod BoardUnique
+pub mod Setters
+pub mod State
 pub mod Ranges

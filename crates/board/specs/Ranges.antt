@@ -19,6 +19,13 @@ phaseInRange w (Low low) = true
 unfoldable pub bstatInRange : ℕ → Bool
 bstatInRange s = eqb s 0 || eqb s 1 || eqb s 2 || eqb s 5 || eqb s 6
 
--- "W at most 15", the phase, "next reply at most 0x1FFFF", BSTAT, "dump pointer at most 65,536"
+-- what the board must meet: "W at most 15", BSTAT
+abbrev pub boardInRange : Board → Bool
+boardInRange b = leb (b .w) 15 && bstatInRange (b .status .bstat)
+
+-- what a place must meet at a board of that W: the phase, "next reply at most 0x1FFFF", "dump pointer at most 65,536"
+abbrev pub placeInRange : ℕ → Place → Bool
+placeInRange w p = phaseInRange w (p .phase) && leb (p .next) 0x1FFFF && leb (p .pointer) 65536
+
 unfoldable pub inRange : Board → Place → Bool
-inRange b p = leb (b .w) 15 && phaseInRange (b .w) (p .phase) && leb (p .next) 0x1FFFF && bstatInRange (b .status .bstat) && leb (p .pointer) 65536
+inRange b p = boardInRange b && placeInRange (b .w) p

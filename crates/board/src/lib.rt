@@ -1,7 +1,9 @@
 // The board, the place at which a pod talks to it, making them, and their ranges (01, "The board and its parts", "Refusal numbers").
 ghost use mathlib.Core.Path.{_≡_};
 ghost use Rattle.board.specs.Board.{freshBoard, freshPlace, MakingMeets};
-ghost use Rattle.board.specs.Ranges.{bstatInRange, phaseInRange, inRange};
+ghost use Rattle.board.specs.State.{standingOf};
+ghost use Rattle.board.specs.Setters.{placeWith};
+ghost use Rattle.board.specs.Ranges.{bstatInRange, phaseInRange, boardInRange, placeInRange, inRange};
 use command::Command;
 use grounds::Ground;
 use grounds::Verdict;
@@ -78,6 +80,12 @@ pub struct Place {
     pub next: u32,
 }
 
+// What a command word is judged by.
+pub struct Standing {
+    pub halted: bool,
+    pub chain: Chain,
+}
+
 // Where the making is refused, a board of W = 0 stands in.
 pub struct Made {
     pub verdict: Verdict,
@@ -125,7 +133,7 @@ fn new_place() -> Place
         phase: Phase::Rest,
         chain: Chain::Off,
         pointer: 0,
-        next: 0x0FFFF,
+        next: command::COMPLETE,
     }
 }
 
@@ -159,7 +167,7 @@ fn is_bstat(bstat: u32) -> bool
     }
 }
 
-fn is_phase(phase: Phase, w: u32) -> bool
+fn is_phase_in_range(phase: Phase, w: u32) -> bool
     ensures { λ r. ⌜ r ≡ phaseInRange w phase ⌝ }
 {
     match phase {
@@ -173,7 +181,7 @@ fn is_phase(phase: Phase, w: u32) -> bool
         Phase::Waiting(command, left, _, _) => {
             if 1 <= left {
                 if left <= w {
-                    return command::is_waiting(command);
+                    return command::does_wait(command);
                 }
                 return false;
             }
@@ -183,21 +191,55 @@ fn is_phase(phase: Phase, w: u32) -> bool
     }
 }
 
-pub fn is_in_range(board: Board, place: Place) -> bool
-    ensures { λ r. ⌜ r ≡ inRange board place ⌝ }
+fn is_board_in_range(board: Board) -> bool
+    ensures { λ r. ⌜ r ≡ boardInRange board ⌝ }
+{
+    if board.w <= 15 {
+        return is_bstat(board.status.bstat);
+    }
+    false
+}
+
+fn is_place_in_range(place: Place, w: u32) -> bool
+    ensures { λ r. ⌜ r ≡ placeInRange w place ⌝ }
 {
     let phase = place.phase;
-    if board.w <= 15 {
-        if is_phase(phase, board.w) {
-            if place.next <= 0x1FFFF {
-                if is_bstat(board.status.bstat) {
-                    return place.pointer <= 65536;
-                }
-                return false;
-            }
-            return false;
+    if is_phase_in_range(phase, w) {
+        if place.next <= 0x1FFFF {
+            return place.pointer <= 65536;
         }
         return false;
     }
     false
+}
+
+pub fn is_in_range(board: Board, place: Place) -> bool
+    ensures { λ r. ⌜ r ≡ inRange board place ⌝ }
+{
+    if is_board_in_range(board) {
+        return is_place_in_range(place, board.w);
+    }
+    false
+}
+
+pub fn standing_of(board: Board, place: Place) -> Standing
+    ensures { λ r. ⌜ r ≡ standingOf board place ⌝ }
+{
+    let chain = place.chain;
+    Standing {
+        halted: board.status.halted,
+        chain: chain,
+    }
+}
+
+// A field that no packet changes would come from the place given.
+pub fn set_place(place: Place, phase: Phase, chain: Chain, pointer: u32, next: u32) -> Place
+    ensures { λ r. ⌜ r ≡ placeWith place phase chain pointer next ⌝ }
+{
+    Place {
+        phase: phase,
+        chain: chain,
+        pointer: pointer,
+        next: next,
+    }
 }

@@ -2,6 +2,7 @@
 use mathlib.Core.Bool.{Bool, not, _&&_, _||_}
 use Rattle.board.specs.declared.Status.{Status}
 use Rattle.board.specs.declared.Debug.{Debug}
+use Rattle.board.specs.Setters.{withHalted, withBkpt}
 use Rattle.comparators.specs.Masks.{bit}
 use Rattle.bus.specs.declared.Pressed.{Pressed}
 
@@ -15,4 +16,4 @@ pressed s d = record { halted = not (s .halted) && not (bkd d); interrupt = not 
 
 -- "halts and sets BKPT"
 unfoldable pub statusPressed : Status → Pressed → Status
-statusPressed s p = record { halted = s .halted || p .halted; fof = s .fof; trg = s .trg; halt = s .halt; bkpt = s .bkpt || p .halted; bstat = s .bstat; sync = s .sync }
+statusPressed s p = withBkpt (withHalted s (s .halted || p .halted)) (s .bkpt || p .halted)

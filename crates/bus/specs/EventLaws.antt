@@ -1,25 +1,27 @@
 -- Laws of the event and the breakpoint input: what they leave alone, and that the ranges of ground 12 stay kept.
 use Prim.Native.Nat.{ℕ}
-use mathlib.Core.Path.{_≡_, refl, sym}
-use mathlib.Core.Bool.{Bool, true, false, cond, _&&_, true≢false}
+use mathlib.Core.Path.{_≡_, refl}
+use mathlib.Core.Bool.{Bool, true, false, cond}
 use lib.Dec.{eqb, leb}
+use Rattle.laws.specs.Tests.{both-hold}
 use Rattle.grounds.specs.declared.Ground.{Ground}
 use Rattle.grounds.specs.declared.Verdict.{Verdict}
 use Rattle.grounds.specs.declared.Verdict.the-variants.{Accepted, Refused}
+use Rattle.grounds.specs.Grounds.{ifAccepted}
 use Rattle.board.specs.declared.Board.{Board}
 use Rattle.board.specs.declared.Place.{Place}
 use Rattle.board.specs.declared.Status.{Status}
-use Rattle.board.specs.Ranges.{inRange, phaseInRange, bstatInRange}
-use Rattle.registers.specs.Registers.{withStatus}
+use Rattle.board.specs.Ranges.{bstatInRange, boardInRange, placeInRange, inRange}
+use Rattle.board.specs.Setters.{withStatus}
 use Rattle.trigger.specs.declared.Event.{Event}
 use Rattle.trigger.specs.Levels.{levelTwo}
 use Rattle.trigger.specs.Fired.{firedLevel}
 use Rattle.bus.specs.Firing.{bstatAfter, firing, statusAfter}
 use Rattle.bus.specs.Breakpoint.{pressed, statusPressed}
-use Rattle.bus.specs.Events.{boardBy, eventVerdict, breakpointVerdict, boardAfterEvent, boardAfterBreakpoint}
+use Rattle.bus.specs.Events.{eventVerdict, breakpointVerdict, boardAfterEvent, boardAfterBreakpoint}
 
 -- whatever the verdict, only the status may change: W, the registers and the debug registers stay
-by-status-alone : (v : Verdict) (b : Board) (s : Status) → boardBy v b s ≡ withStatus b (boardBy v b s .status)
+by-status-alone : (v : Verdict) (b : Board) (s : Status) → ifAccepted v (withStatus b s) b ≡ withStatus b (ifAccepted v (withStatus b s) b .status)
 by-status-alone Accepted b s = refl
 by-status-alone (Refused g) b s = refl
 
@@ -46,20 +48,17 @@ bstat-stays-in-range level tdr bstat within = by-tests (eqb level 1) (levelTwo t
     by-tests false ebl true = refl
     by-tests false ebl false = within
 
-one-for-another : (before old new after : Bool) → (before && old && after) ≡ true → (old ≡ true → new ≡ true) → (before && new && after) ≡ true
-one-for-another false old new after h kept = h
-one-for-another true true new after h kept = rw (kept refl) h
-one-for-another true false new after h kept = absurd (true≢false (sym h))
-
 -- of the ranges, only BSTAT's speaks of the status
 in-range-with : (b : Board) (p : Place) (s : Status) → inRange b p ≡ true → (bstatInRange (b .status .bstat) ≡ true → bstatInRange (s .bstat) ≡ true)
     → inRange (withStatus b s) p ≡ true
 unfolding inRange
 in-range-with b p s within kept =
-    one-for-another (leb (b .w) 15 && phaseInRange (b .w) (p .phase) && leb (p .next) 0x1FFFF) (bstatInRange (b .status .bstat)) (bstatInRange (s .bstat)) (leb (p .pointer) 65536) within kept
+    let parts = both-hold (boardInRange b) (placeInRange (b .w) p) within in
+    let board = both-hold (leb (b .w) 15) (bstatInRange (b .status .bstat)) (parts .0) in
+    rw (board .0, kept (board .1)) (parts .1)
 
 in-range-by : (v : Verdict) (b : Board) (p : Place) (s : Status) → inRange b p ≡ true → (bstatInRange (b .status .bstat) ≡ true → bstatInRange (s .bstat) ≡ true)
-    → inRange (boardBy v b s) p ≡ true
+    → inRange (ifAccepted v (withStatus b s) b) p ≡ true
 in-range-by Accepted b p s within kept = in-range-with b p s within kept
 in-range-by (Refused g) b p s within kept = within
 

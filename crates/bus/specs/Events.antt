@@ -7,12 +7,11 @@ use lib.Dec.{eqb}
 use Rattle.grounds.specs.declared.Ground.the-variants.{EventWhileHalted, OddPc, ReservedSize, StateOutOfRange}
 use Rattle.grounds.specs.declared.Verdict.{Verdict}
 use Rattle.grounds.specs.declared.Verdict.the-variants.{Accepted, Refused}
-use Rattle.grounds.specs.Grounds.{check, judge}
+use Rattle.grounds.specs.Grounds.{check, judge, ifAccepted}
 use Rattle.board.specs.declared.Board.{Board}
 use Rattle.board.specs.declared.Place.{Place}
-use Rattle.board.specs.declared.Status.{Status}
 use Rattle.board.specs.Ranges.{inRange}
-use Rattle.registers.specs.Registers.{withStatus}
+use Rattle.board.specs.Setters.{withStatus}
 use Rattle.groups.specs.declared.Bus.{Bus}
 use Rattle.groups.specs.declared.Bus.the-variants.{Idle, Carries}
 use Rattle.trigger.specs.declared.Event.{Event}
@@ -25,7 +24,7 @@ use Rattle.bus.specs.declared.EventAnswer.{EventAnswer}
 use Rattle.bus.specs.declared.BreakpointAnswer.{BreakpointAnswer}
 use Rattle.bus.specs.Firing.{firing, seen, statusAfter}
 use Rattle.bus.specs.Breakpoint.{pressed, statusPressed}
-use Rattle.bus.specs.Answers.{eventTold, breakpointTold}
+use Rattle.bus.specs.EventAnswers.{toldEvent, toldBreakpoint}
 
 -- "an access whose size field is 11"
 abbrev pub reservedSize : Bus → Bool
@@ -55,29 +54,24 @@ abbrev pub breakpointOutcomeBy : Verdict → Pressed → breakpoints.BreakpointO
 breakpointOutcomeBy Accepted p = breakpoints.the-variants.Taken p
 breakpointOutcomeBy (Refused g) p = breakpoints.the-variants.Refused g
 
--- "state .. stay as given" on a refusal
-abbrev pub boardBy : Verdict → Board → Status → Board
-boardBy Accepted b s = withStatus b s
-boardBy (Refused g) b s = b
-
 abbrev pub eventOutcome : Board → Place → Event → events.EventOutcome
 eventOutcome b p event = eventOutcomeBy (eventVerdict b p event) (seen (b .status) (b .debug) event (firing (b .status) (b .debug) event))
 
 abbrev pub boardAfterEvent : Board → Place → Event → Board
-boardAfterEvent b p event = boardBy (eventVerdict b p event) b (statusAfter (b .status) (b .debug) (firing (b .status) (b .debug) event))
+boardAfterEvent b p event = ifAccepted (eventVerdict b p event) (withStatus b (statusAfter (b .status) (b .debug) (firing (b .status) (b .debug) event))) b
 
 abbrev pub breakpointOutcome : Board → Place → breakpoints.BreakpointOutcome
 breakpointOutcome b p = breakpointOutcomeBy (breakpointVerdict b p) (pressed (b .status) (b .debug))
 
 abbrev pub boardAfterBreakpoint : Board → Place → Board
-boardAfterBreakpoint b p = boardBy (breakpointVerdict b p) b (statusPressed (b .status) (pressed (b .status) (b .debug)))
+boardAfterBreakpoint b p = ifAccepted (breakpointVerdict b p) (withStatus b (statusPressed (b .status) (pressed (b .status) (b .debug)))) b
 
 -- the promise of an event
 pub record EventMeets (b : Board) (p : Place) (event : Event) (r : EventAnswer) : Type 0 where
-  pub answer : eventTold (r .outcome) ≡ eventTold (eventOutcome b p event)
+  pub answer : toldEvent (r .outcome) ≡ toldEvent (eventOutcome b p event)
   pub board : r .board ≡ boardAfterEvent b p event
 
 -- the promise of the breakpoint input
 pub record BreakpointMeets (b : Board) (p : Place) (r : BreakpointAnswer) : Type 0 where
-  pub answer : breakpointTold (r .outcome) ≡ breakpointTold (breakpointOutcome b p)
+  pub answer : toldBreakpoint (r .outcome) ≡ toldBreakpoint (breakpointOutcome b p)
   pub board : r .board ≡ boardAfterBreakpoint b p

@@ -4,6 +4,7 @@ use mathlib.Core.Bool.{Bool, false, cond, not, _&&_, _||_}
 use lib.Dec.{eqb}
 use Rattle.board.specs.declared.Status.{Status}
 use Rattle.board.specs.declared.Debug.{Debug}
+use Rattle.board.specs.Setters.{withHalted, withTrg, withBstat, withSync}
 use Rattle.trigger.specs.declared.Event.{Event}
 use Rattle.comparators.specs.Masks.{bit}
 use Rattle.trigger.specs.Levels.{levelTwo}
@@ -58,4 +59,4 @@ seen s d event f = record { level = f .level; halted = halted d f; interrupt = f
 
 -- "its halt sets TRG"; SSM sets no flag; SYNC_PC is no longer pending
 unfoldable pub statusAfter : Status → Debug → Firing → Status
-statusAfter s d f = record { halted = halted d f; fof = s .fof; trg = s .trg || f .halts; halt = s .halt; bkpt = s .bkpt; bstat = f .bstat; sync = false }
+statusAfter s d f = withSync (withBstat (withTrg (withHalted s (halted d f)) (s .trg || f .halts)) (f .bstat)) false

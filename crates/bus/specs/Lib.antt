@@ -1,7 +1,7 @@
 pub mod Firing
 pub mod Breakpoint
-pub mod Answers
+pub mod EventAnswers
 pub mod Events
 pub mod EventLaws
-pub mod AnswerLaws
-pub mod ByEye
+pub mod EventUnique
+pub mod EventExamples

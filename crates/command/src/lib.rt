@@ -3,6 +3,15 @@ ghost use mathlib.Core.Path.{_≡_};
 ghost use Rattle.command.specs.Command.{decoded, decodedWord, operandWords, haltedOnly, waits};
 use memory::Size;
 
+// The replies that are no data (01, "Replies: ..").
+pub const COMPLETE: u32 = 0x0FFFF;
+
+pub const NOT_READY: u32 = 0x10000;
+
+pub const BUS_ERROR: u32 = 0x10001;
+
+pub const ILLEGAL: u32 = 0x1FFFF;
+
 // The registers that WDMREG takes.
 pub enum DebugRegister {
     Csr,
@@ -162,7 +171,7 @@ pub fn needs_halted(command: Command) -> bool
     }
 }
 
-pub fn is_waiting(command: Command) -> bool
+pub fn does_wait(command: Command) -> bool
     ensures { λ r. ⌜ r ≡ waits command ⌝ }
 {
     match command {

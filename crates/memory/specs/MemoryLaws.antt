@@ -4,6 +4,7 @@ use native.Mathlib.Omega.{arith}
 use mathlib.Core.Path.{_≡_, refl}
 use mathlib.Core.Bool.{Bool, true, false, cond}
 use mathlib.Core.List.{List, [], _∷_}
+use Rattle.laws.specs.Tests.{either}
 use lib.ListN.{length, getD, set, length-set}
 use Rattle.memory.specs.declared.Size.{Size}
 use Rattle.memory.specs.declared.Size.the-variants.{Byte, Word, Long}
@@ -29,15 +30,10 @@ put-keeps-bytes m Byte at v h = set-keeps-below 256 m at (v % 256) h (omega arit
 put-keeps-bytes m Word at v h = put-word-keeps-bytes m at v h
 put-keeps-bytes m Long at v h = put-word-keeps-bytes (putWord m at (v / 65536)) (at + 2) v (put-word-keeps-bytes m at (v / 65536) h)
 
-put-keeps-length : (m : List ℕ) (s : Size) (at v : ℕ) → length (putAt m s at v) ≡ length m
+pub put-keeps-length : (m : List ℕ) (s : Size) (at v : ℕ) → length (putAt m s at v) ≡ length m
 put-keeps-length m Byte at v = simp length-set
 put-keeps-length m Word at v = simp length-set
 put-keeps-length m Long at v = simp length-set
-
--- what holds of both choices, each where its test led there, holds of the choice
-pub either : {A : Type 0} (P : A → Type 0) (t : Bool) (x y : A) → (t ≡ true → P x) → (t ≡ false → P y) → P (cond t x y)
-either P true x y f g = f refl
-either P false x y f g = g refl
 
 pub store-keeps-bytes : (m : List ℕ) (s : Size) (a v : ℕ) → AllBelow 256 m → AllBelow 256 (stored m s a v)
 unfolding stored

@@ -10,6 +10,7 @@ use Rattle.board.specs.declared.Operands.{Operands}
 use Rattle.board.specs.declared.Phase.{Phase}
 use Rattle.board.specs.declared.Phase.the-variants.{Rest, Due, Waiting, Low}
 use Rattle.board.specs.declared.Chain.{Chain}
+use Rattle.board.specs.declared.Standing.{Standing}
 use Rattle.board.specs.declared.Chain.the-variants.{Off, Dumping, Filling}
 use Rattle.plan.specs.declared.Plan.{Plan}
 use Rattle.plan.specs.declared.Plan.the-variants.{Hold, Reject, Release, Work}
@@ -40,12 +41,12 @@ follows (Show source) chain = true
 follows (Change target) chain = true
 
 -- ".. or a "halted" command while running, is illegal"
-abbrev pub legal : Command → Bool → Chain → Bool
-legal c halted chain = (halted || not (haltedOnly c)) && follows c chain
+abbrev pub legalCommand : Command → Standing → Bool
+legalCommand c s = (s .halted || not (haltedOnly c)) && follows c (s .chain)
 
 -- "C set, at rest or while an operand is due: illegal"; "Halted is judged when the command word is taken"
-abbrev pub lawful : ℕ → Bool → Chain → Bool
-lawful word halted chain = not (carriesC word) && legal (decoded word) halted chain
+abbrev pub legalWord : ℕ → Standing → Bool
+legalWord word s = not (carriesC word) && legalCommand (decoded word) s
 
 -- "Addresses and longwords go upper word first."
 abbrev pub long : ℕ → ℕ → ℕ
@@ -66,8 +67,8 @@ abbrev pub valueIn : ℕ → Operands → ℕ
 valueIn n t = cond (eqb n 1 || eqb n 3) (t .newest) (long (t .newer) (t .newest))
 
 -- "wait W packets, .. then the work is done"
-unfoldable pub ready : ℕ → Command → ℕ → ℕ → Plan
-ready left c address value = cond (eqb left 0) (Work c address value) (Hold (Waiting c left address value))
+unfoldable pub workAfter : ℕ → Command → ℕ → ℕ → Plan
+workAfter left c address value = cond (eqb left 0) (Work c address value) (Hold (Waiting c left address value))
 
 -- "memory and control-register commands wait W packets"; "Others act when their last word is taken"
 abbrev pub waitsOf : ℕ → Command → ℕ
@@ -76,19 +77,19 @@ waitsOf w c = cond (waits c) w 0
 -- with so many operand words still due
 unfoldable pub collected : ℕ → ℕ → Command → Operands → Plan
 collected w left c t =
-    cond (eqb left 0) (ready (waitsOf w c) c (addressIn (operandWords c) t) (valueIn (operandWords c) t)) (Hold (Due c left t))
+    cond (eqb left 0) (workAfter (waitsOf w c) c (addressIn (operandWords c) t) (valueIn (operandWords c) t)) (Hold (Due c left t))
 
 -- "Every packet accepted at rest is a command word taken"
-unfoldable pub begun : Bool → Chain → ℕ → ℕ → Plan
-begun halted chain w word = cond (lawful word halted chain) (collected w (operandWords (decoded word)) (decoded word) noOperands) Reject
+unfoldable pub begun : Standing → ℕ → ℕ → Plan
+begun s w word = cond (legalWord word s) (collected w (operandWords (decoded word)) (decoded word) noOperands) Reject
 
 -- an operand is taken; "C set .. while an operand is due: illegal, the command is dropped"
 unfoldable pub continued : Command → ℕ → Operands → ℕ → ℕ → Plan
 continued c left t w word = cond (carriesC word) Reject (collected w (left - 1) c (withOperand t word))
 
 -- "each replying 0x10000 and ignoring its input"; "the packet that carries it out has its input ignored"
-abbrev pub planOf : Phase → Bool → Chain → ℕ → ℕ → Plan
-planOf Rest halted chain w word = begun halted chain w word
-planOf (Due c left t) halted chain w word = continued c left t w word
-planOf (Waiting c left address value) halted chain w word = ready (left - 1) c address value
-planOf (Low low) halted chain w word = Release low
+abbrev pub planOf : Phase → Standing → ℕ → ℕ → Plan
+planOf Rest s w word = begun s w word
+planOf (Due c left t) s w word = continued c left t w word
+planOf (Waiting c left address value) s w word = workAfter (left - 1) c address value
+planOf (Low low) s w word = Release low

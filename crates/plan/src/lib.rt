@@ -1,10 +1,11 @@
 // What a packet's input is taken for: a command word, an operand, or nothing (01, "Packets").
 ghost use mathlib.Core.Path.{_≡_};
 ghost use Prim.Native.Nat.{_-_};
-ghost use Rattle.plan.specs.Plan.{isDumping, isFilling, follows, legal, long, withOperand, addressIn, valueIn, ready, waitsOf, collected, begun, continued, planOf};
+ghost use Rattle.plan.specs.Plan.{isDumping, isFilling, follows, legalCommand, long, withOperand, addressIn, valueIn, workAfter, waitsOf, collected, begun, continued, planOf};
 use board::Chain;
 use board::Operands;
 use board::Phase;
+use board::Standing;
 use command::Base;
 use command::Command;
 
@@ -58,10 +59,11 @@ fn may_follow(command: Command, chain: Chain) -> bool
     }
 }
 
-fn is_legal(command: Command, halted: bool, chain: Chain) -> bool
-    ensures { λ r. ⌜ r ≡ legal command halted chain ⌝ }
+fn is_legal(command: Command, standing: Standing) -> bool
+    ensures { λ r. ⌜ r ≡ legalCommand command standing ⌝ }
 {
-    if halted {
+    let chain = standing.chain;
+    if standing.halted {
         return may_follow(command, chain);
     }
     if command::needs_halted(command) {
@@ -112,7 +114,7 @@ fn value_in(n: u32, taken: Operands) -> u32
 }
 
 fn wait_or_work(left: u32, command: Command, address: u32, value: u32) -> Plan
-    ensures { λ r. ⌜ r ≡ ready left command address value ⌝ }
+    ensures { λ r. ⌜ r ≡ workAfter left command address value ⌝ }
 {
     if left == 0 {
         return Plan::Work(command, address, value);
@@ -123,7 +125,7 @@ fn wait_or_work(left: u32, command: Command, address: u32, value: u32) -> Plan
 fn waits_of(w: u32, command: Command) -> u32
     ensures { λ r. ⌜ r ≡ waitsOf w command ⌝ }
 {
-    if command::is_waiting(command) {
+    if command::does_wait(command) {
         return w;
     }
     0
@@ -141,14 +143,14 @@ fn collect(w: u32, left: u32, command: Command, taken: Operands) -> Plan
     Plan::Hold(Phase::Due(command, left, taken))
 }
 
-fn begin(halted: bool, chain: Chain, w: u32, word: u32) -> Plan
-    ensures { λ r. ⌜ r ≡ begun halted chain w word ⌝ }
+fn begin(standing: Standing, w: u32, word: u32) -> Plan
+    ensures { λ r. ⌜ r ≡ begun standing w word ⌝ }
 {
     if 0x10000 <= word {
         return Plan::Reject;
     }
     let command = command::decode(word);
-    if is_legal(command, halted, chain) {
+    if is_legal(command, standing) {
         let none = Operands {
             oldest: 0,
             older: 0,
@@ -179,11 +181,11 @@ fn go_on(command: Command, left: u32, taken: Operands, w: u32, word: u32) -> Pla
     collect(w, less_one(left), command, take_operand(taken, word as u16))
 }
 
-pub fn make_plan(phase: Phase, halted: bool, chain: Chain, w: u32, word: u32) -> Plan
-    ensures { λ r. ⌜ r ≡ planOf phase halted chain w word ⌝ }
+pub fn make_plan(phase: Phase, standing: Standing, w: u32, word: u32) -> Plan
+    ensures { λ r. ⌜ r ≡ planOf phase standing w word ⌝ }
 {
     match phase {
-        Phase::Rest => begin(halted, chain, w, word),
+        Phase::Rest => begin(standing, w, word),
         Phase::Due(command, left, taken) => go_on(command, left, taken, w, word),
         Phase::Waiting(command, left, address, value) => {
             wait_or_work(less_one(left), command, address, value)

@@ -1,13 +1,3 @@
-pub mod Packets
-pub mod Promise
+pub mod Packet
+pub mod PacketUnique
 pub mod PacketLaws
-pub mod Run
-pub mod RunLaws
-pub mod Sound
-pub mod SoundPlan
-pub mod SoundWork
-pub mod SoundLaws
-pub mod Examples
-pub mod Both
-pub mod Quiet
-pub mod QuietLaws

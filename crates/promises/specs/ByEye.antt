@@ -10,7 +10,7 @@ use Rattle.board.specs.Board.{freshBoard, freshPlace}
 use Rattle.board.specs.Ranges.{inRange, bstatInRange}
 use Rattle.registers.specs.Csr.{csrValue, bstatRead}
 use Rattle.registers.specs.Registers.{debugLoaded, withDebugWritten, controlPlace, controlFetched, withControl}
-use Rattle.plan.specs.Plan.{ready, collected, begun, continued}
+use Rattle.plan.specs.Plan.{workAfter, collected, begun, continued}
 use Rattle.port.specs.Packets.{planFor, replyNow, placeNext, boardNext, memoryNext, packetVerdict}
 use Rattle.trigger.specs.declared.Event.{Event}
 use Rattle.groups.specs.declared.Bus.the-variants.{Idle, Carries}
@@ -90,7 +90,7 @@ pub record ByEye : Type 0 where
   pub p9-items : words (items p9) ≡ (0 * 16 + 1) ∷ 0 ∷ (1 * 16 + 5) ∷ 0 ∷ (6 * 16 + 9) ∷ 4660 ∷ (6 * 16 + 1) ∷ 0 ∷ (7 * 16 + 15) ∷ 0 ∷ []
 
 pub by-eye : ByEye
-unfolding freshBoard freshPlace inRange bstatInRange fetched stored decoded decodedWord csrValue bstatRead debugLoaded withDebugWritten controlPlace controlFetched withControl ready collected begun continued planFor replyNow placeNext boardNext memoryNext packetVerdict agree levelOf pcGroup addressMatches attributeAgrees dataEnabled addressGroup joined fires firedLevel bstatAfter responds firing seen statusAfter eventVerdict givesOwn afterCycle carriedInto value itemsAt itemsBefore items handed after finds
+unfolding freshBoard freshPlace inRange bstatInRange fetched stored decoded decodedWord csrValue bstatRead debugLoaded withDebugWritten controlPlace controlFetched withControl workAfter collected begun continued planFor replyNow placeNext boardNext memoryNext packetVerdict agree levelOf pcGroup addressMatches attributeAgrees dataEnabled addressGroup joined fires firedLevel bstatAfter responds firing seen statusAfter eventVerdict givesOwn afterCycle carriedInto value itemsAt itemsBefore items handed after finds
 by-eye = record {
   p1 = refl;
   p2 = refl;

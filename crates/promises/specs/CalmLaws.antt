@@ -13,7 +13,7 @@ use Rattle.board.specs.declared.Phase.the-variants.{Rest, Due, Waiting, Low}
 use Rattle.board.specs.declared.Chain.{Chain}
 use Rattle.plan.specs.declared.Plan.{Plan}
 use Rattle.plan.specs.declared.Plan.the-variants.{Hold, Reject, Release, Work}
-use Rattle.plan.specs.Plan.{carriesC, addressIn, valueIn, withOperand, ready, waitsOf, collected, continued, planOf}
+use Rattle.plan.specs.Plan.{carriesC, addressIn, valueIn, withOperand, workAfter, waitsOf, collected, continued, planOf}
 use Rattle.port.specs.Sound.{PhaseWithin}
 use Rattle.port.specs.QuietLaws.{nop-plan}
 use Rattle.memory.specs.MemoryLaws.{either}
@@ -32,8 +32,8 @@ PlanCalm Reject = Unit {0}
 PlanCalm (Release low) = Unit {0}
 PlanCalm (Work c address value) = Calm c
 
-ready-calm : (left : ℕ) (c : Command) (address value : ℕ) → Calm c → PlanCalm (ready left c address value)
-unfolding ready
+ready-calm : (left : ℕ) (c : Command) (address value : ℕ) → Calm c → PlanCalm (workAfter left c address value)
+unfolding workAfter
 ready-calm left c address value h = either PlanCalm (eqb left 0) (Work c address value) (Hold (Waiting c left address value)) (λ e. h) (λ e. tt)
 
 continued-calm : (c : Command) (left : ℕ) (t : Operands) (w word : ℕ) → Calm c → PlanCalm (continued c left t w word)
@@ -41,7 +41,7 @@ unfolding continued collected
 continued-calm c left t w word h =
     either PlanCalm (carriesC word) Reject (collected w (left - 1) c (withOperand t word)) (λ e. tt)
     (λ e. either PlanCalm (eqb (left - 1) 0)
-    (ready (waitsOf w c) c (addressIn (operandWords c) (withOperand t word)) (valueIn (operandWords c) (withOperand t word))) (Hold (Due c (left - 1) (withOperand t word)))
+    (workAfter (waitsOf w c) c (addressIn (operandWords c) (withOperand t word)) (valueIn (operandWords c) (withOperand t word))) (Hold (Due c (left - 1) (withOperand t word)))
     (λ z. ready-calm (waitsOf w c) c (addressIn (operandWords c) (withOperand t word)) (valueIn (operandWords c) (withOperand t word)) h)
     (λ z. tt))
 

@@ -19,7 +19,7 @@ use Rattle.work.specs.Access.{accessOf}
 use Rattle.work.specs.Work.{firstReply, phaseAfter, endingOf}
 use Rattle.plan.specs.declared.Plan.{Plan}
 use Rattle.plan.specs.declared.Plan.the-variants.{Hold, Reject, Work}
-use Rattle.plan.specs.Plan.{carriesC, lawful, noOperands, withOperand, addressIn, valueIn, ready, waitsOf, collected, begun, continued, planOf}
+use Rattle.plan.specs.Plan.{carriesC, legalWord, noOperands, withOperand, addressIn, valueIn, workAfter, waitsOf, collected, begun, continued, planOf}
 use Rattle.port.specs.Packets.{placeBy, planFor, placeNext}
 use Rattle.promises.specs.Words.{Word, endingFound, ended, stage}
 use Rattle.promises.specs.Words.Stage.{upperDue, closed}
@@ -71,8 +71,8 @@ module _ (w : ℕ) (b : Board) (p : Place) (m : List ℕ) (c : Command) (o : Wor
       (stage-shown w c o t h e ∙ ap (ended 1) ends)
 
   tells-ready : (left : ℕ) (t : Operands) (value : ℕ) → Open w c 0 t o → o .waited + left ≡ waitsOf w c
-      → PlaceTells w (placeBy (ready left c (addressIn (operandWords c) t) value) b p m) (o ∷ os)
-  unfolding ready
+      → PlaceTells w (placeBy (workAfter left c (addressIn (operandWords c) t) value) b p m) (o ∷ os)
+  unfolding workAfter
   tells-ready left t value h e =
       either (λ (plan : Plan). PlaceTells w (placeBy plan b p m) (o ∷ os)) (eqb left 0) (Work c (addressIn (operandWords c) t) value) (Hold (Waiting c left (addressIn (operandWords c) t) value))
       (λ none. tells-work t value h (omega (arith, eqb-true left 0 none)))
@@ -81,7 +81,7 @@ module _ (w : ℕ) (b : Board) (p : Place) (m : List ℕ) (c : Command) (o : Wor
   tells-collected : (left : ℕ) (t : Operands) → Open w c left t o → o .waited ≡ 0 → PlaceTells w (placeBy (collected w left c t) b p m) (o ∷ os)
   unfolding collected
   tells-collected left t h e =
-      either (λ (plan : Plan). PlaceTells w (placeBy plan b p m) (o ∷ os)) (eqb left 0) (ready (waitsOf w c) c (addressIn (operandWords c) t) (valueIn (operandWords c) t)) (Hold (Due c left t))
+      either (λ (plan : Plan). PlaceTells w (placeBy plan b p m) (o ∷ os)) (eqb left 0) (workAfter (waitsOf w c) c (addressIn (operandWords c) t) (valueIn (operandWords c) t)) (Hold (Due c left t))
       (λ none. tells-ready (waitsOf w c) t (valueIn (operandWords c) t) (rw (eqb-true left 0 none) at h) (omega arith))
       (λ some. (h, not-none left some, e))
 
@@ -89,10 +89,10 @@ tells-begun : (w : ℕ) (f : Found) (p : Place) (os : List Word) → f .board .w
     → PlaceTells w (placeBy (begun (f .board .status .halted) (p .chain) w (f .word)) (f .board) p (f .memory)) (begins f p ∷ os)
 unfolding begun stage
 tells-begun w f p os e =
-    either (λ (plan : Plan). PlaceTells w (placeBy plan (f .board) p (f .memory)) (begins f p ∷ os)) (lawful (f .word) (f .board .status .halted) (p .chain))
+    either (λ (plan : Plan). PlaceTells w (placeBy plan (f .board) p (f .memory)) (begins f p ∷ os)) (legalWord (f .word) (f .board .status .halted) (p .chain))
     (collected w (operandWords (decoded (f .word))) (decoded (f .word)) noOperands) Reject
-    (λ lawful. tells-collected w (f .board) p (f .memory) (decoded (f .word)) (begins f p) os (record { board = refl; pointer = refl; memory = refl }) (operandWords (decoded (f .word))) noOperands
-    (record { same = refl; judged = lawful; clear = refl; kept = refl; count = omega arith; unshown = refl; setting = e }) refl)
+    (λ legalWord. tells-collected w (f .board) p (f .memory) (decoded (f .word)) (begins f p) os (record { board = refl; pointer = refl; memory = refl }) (operandWords (decoded (f .word))) noOperands
+    (record { same = refl; judged = legalWord; clear = refl; kept = refl; count = omega arith; unshown = refl; setting = e }) refl)
     (λ unlawful. rw unlawful)
 
 tells-continued : (w : ℕ) (c : Command) (left : ℕ) (t : Operands) (f : Found) (p : Place) (o : Word) (os : List Word) → f .board .w ≡ w → Open w c left t o → 1 ≤ left → o .waited ≡ 0

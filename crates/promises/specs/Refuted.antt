@@ -14,7 +14,7 @@ use Rattle.board.specs.Board.{freshBoard, freshPlace, atRest}
 use Rattle.board.specs.Ranges.{inRange, bstatInRange}
 use Rattle.memory.specs.Memory.{fetched}
 use Rattle.trigger.specs.declared.Event.{Event}
-use Rattle.plan.specs.Plan.{carriesC, ready, collected, begun, continued}
+use Rattle.plan.specs.Plan.{carriesC, workAfter, collected, begun, continued}
 use Rattle.port.specs.Packets.{planFor, replyNow, placeNext, boardNext, packetVerdict}
 use Rattle.promises.specs.Machine.{state, Machine, standIn}
 use Rattle.promises.specs.Words.{stage, closing}
@@ -95,12 +95,12 @@ history words = sends noMemory words
 
 -- WDMREG CSR with one operand of two
 pub operand-early : Demand3 (early hastyOperand) → ⊥
-unfolding freshBoard freshPlace inRange bstatInRange decoded decodedWord ready collected begun continued planFor placeNext boardNext packetVerdict trail stage finds
+unfolding freshBoard freshPlace inRange bstatInRange decoded decodedWord workAfter collected begun continued planFor placeNext boardNext packetVerdict trail stage finds
 operand-early d = true≢false (d .closing 2 (omega arith) (history (0x2C80 ∷ 0 ∷ [])) .closes .rests)
 
 -- a byte READ with one packet of two waited
 pub wait-early : Demand3 (early hastyWait) → ⊥
-unfolding freshBoard freshPlace inRange bstatInRange fetched decoded decodedWord ready collected begun continued planFor placeNext boardNext packetVerdict trail stage finds
+unfolding freshBoard freshPlace inRange bstatInRange fetched decoded decodedWord workAfter collected begun continued planFor placeNext boardNext packetVerdict trail stage finds
 wait-early d = true≢false (d .closing 2 (omega arith) (history (0x1900 ∷ 0 ∷ 0 ∷ 0 ∷ [])) .closes .rests)
 
 -- a closing reply that is whatever is held: the next reply never changes
@@ -145,5 +145,5 @@ resting = record {
 }
 
 pub event-moves-the-phase : (e : Event) → Demand3 resting → ⊥
-unfolding freshBoard freshPlace inRange bstatInRange decoded decodedWord ready collected begun continued planFor placeNext boardNext packetVerdict after
+unfolding freshBoard freshPlace inRange bstatInRange decoded decodedWord workAfter collected begun continued planFor placeNext boardNext packetVerdict after
 event-moves-the-phase e = event-moves-the-place resting 2 (omega arith) (history (0x2C80 ∷ [])) e (λ same. true≢false (ap (λ (p : Place). atRest (p .phase)) same))

@@ -11,7 +11,7 @@ use Rattle.command.specs.Command.{decoded, operandWords}
 use Rattle.board.specs.declared.Operands.{Operands}
 use Rattle.work.specs.Access.{accessOf}
 use Rattle.work.specs.Work.{endingOf}
-use Rattle.plan.specs.Plan.{lawful, noOperands, addressIn, waitsOf}
+use Rattle.plan.specs.Plan.{legalWord, noOperands, addressIn, waitsOf}
 use Rattle.promises.specs.Words.{Word, anyC, endingFound, ended, stage}
 use Rattle.promises.specs.Words.Stage.{operandDue, waitDue}
 use Rattle.promises.specs.Environment.{showsUpper}
@@ -23,7 +23,7 @@ not-none n e = omega (arith, eqb-false n 0 e)
 -- a lawful word with so many operands still due, none with C
 pub record Open (w : ℕ) (c : Command) (left : ℕ) (t : Operands) (o : Word) : Type 0 where
   pub same : decoded (o .packet) ≡ c
-  pub judged : lawful (o .packet) (o .halted) (o .chain) ≡ true
+  pub judged : legalWord (o .packet) (o .halted) (o .chain) ≡ true
   pub clear : anyC (o .operands) ≡ false
   pub kept : held noOperands (o .operands) ≡ t
   pub count : length (o .operands) + left ≡ operandWords c

@@ -8,7 +8,7 @@ use Rattle.command.specs.Command.{decoded, decodedWord}
 use Rattle.board.specs.Board.{freshBoard, freshPlace, atRest}
 use Rattle.board.specs.Ranges.{inRange, bstatInRange}
 use Rattle.registers.specs.Registers.{controlPlace, controlFetched, withControl}
-use Rattle.plan.specs.Plan.{ready, collected, begun, continued}
+use Rattle.plan.specs.Plan.{workAfter, collected, begun, continued}
 use Rattle.port.specs.Packets.{planFor, placeNext, boardNext, packetVerdict}
 use Rattle.promises.specs.Machine.{State, standIn}
 use Rattle.promises.specs.Environment.{underWay}
@@ -31,9 +31,9 @@ pub record Tight (w : ℕ) : Type 0 where
   pub number : underWay standIn (asked w .place) (finds standIn (asked w) (nops (replicate (5 + w) noMemory))) ≡ 4 + w
 
 pub tight-at-0 : Tight 0
-unfolding freshBoard freshPlace inRange bstatInRange decoded decodedWord controlPlace controlFetched withControl ready collected begun continued planFor placeNext boardNext packetVerdict underWay after finds
+unfolding freshBoard freshPlace inRange bstatInRange decoded decodedWord controlPlace controlFetched withControl workAfter collected begun continued planFor placeNext boardNext packetVerdict underWay after finds
 tight-at-0 = record { fewer = refl; enough = refl; number = refl }
 
 pub tight-at-15 : Tight 15
-unfolding freshBoard freshPlace inRange bstatInRange decoded decodedWord controlPlace controlFetched withControl ready collected begun continued planFor placeNext boardNext packetVerdict underWay after finds
+unfolding freshBoard freshPlace inRange bstatInRange decoded decodedWord controlPlace controlFetched withControl workAfter collected begun continued planFor placeNext boardNext packetVerdict underWay after finds
 tight-at-15 = record { fewer = refl; enough = refl; number = refl }

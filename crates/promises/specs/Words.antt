@@ -13,7 +13,7 @@ use Rattle.work.specs.declared.Ending.{Ending}
 use Rattle.work.specs.declared.Ending.the-variants.{Complete, Failed, OneWord, TwoWords}
 use Rattle.work.specs.Access.{accessOf}
 use Rattle.work.specs.Work.{endingOf}
-use Rattle.plan.specs.Plan.{carriesC, lawful, long, waitsOf}
+use Rattle.plan.specs.Plan.{carriesC, legalWord, long, waitsOf}
 
 -- a command word that was taken
 pub record Word : Type 0 where
@@ -76,7 +76,7 @@ stageBy true false true true end = end
 
 unfoldable pub stage : Word → Stage
 stage o =
-    stageBy (lawful (o .packet) (o .halted) (o .chain)) (anyC (o .operands)) (eqb (length (o .operands)) (operandWords (decoded (o .packet))))
+    stageBy (legalWord (o .packet) (o .halted) (o .chain)) (anyC (o .operands)) (eqb (length (o .operands)) (operandWords (decoded (o .packet))))
     (eqb (o .waited) (waitsOf (o .board .w) (decoded (o .packet))))
     (ended (o .shown) (endingFound o))
 

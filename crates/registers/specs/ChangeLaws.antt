@@ -7,14 +7,15 @@ use Rattle.command.specs.declared.Source.the-variants as source
 use Rattle.command.specs.declared.Target.the-variants as target
 use Rattle.board.specs.declared.Board.{Board}
 use Rattle.registers.specs.Csr.{afterCsrRead, afterGo, afterSyncPc}
-use Rattle.registers.specs.Registers.{withStatus, withGeneral, withControl, withDebugWritten, boardAfter}
+use Rattle.board.specs.Setters.{withStatus}
+use Rattle.registers.specs.Registers.{generalWritten, controlWritten, debugWritten, boardAfter}
 
 pub record EachChange (P : (Board → Board) → Type 0) (address value : ℕ) : Type 0 where
   pub none : P (λ b. b)
   pub csrRead : P (λ b. withStatus b (afterCsrRead (b .status)))
-  pub general : (n : ℕ) → P (λ b. withGeneral b n value)
-  pub control : P (λ b. withControl b address value)
-  pub debug : (r : DebugRegister) → P (λ b. withDebugWritten b r value)
+  pub general : (n : ℕ) → P (λ b. generalWritten b n value)
+  pub control : P (λ b. controlWritten b address value)
+  pub debug : (r : DebugRegister) → P (λ b. debugWritten b r value)
   pub go : P (λ b. withStatus b (afterGo (b .status)))
   pub syncPc : P (λ b. withStatus b (afterSyncPc (b .status)))
 

@@ -5,6 +5,7 @@ use lib.Dec.{eqb}
 use lib.Bits.{bitAnd}
 use Rattle.board.specs.declared.Board.{Board}
 use Rattle.board.specs.declared.Status.{Status}
+use Rattle.board.specs.Setters.{withHalted, withFof, withTrg, withHalt, withBkpt, withBstat, withSync}
 
 abbrev pub flag : Bool → ℕ
 flag true = 1
@@ -31,12 +32,12 @@ bstatRead bstat = cond (eqb bstat 2 || eqb bstat 6) 0 bstat
 
 -- "Reading clears FOF, TRG, HALT, BKPT, and BSTAT if 2 or 6"
 abbrev pub afterCsrRead : Status → Status
-afterCsrRead s = record { halted = s .halted; fof = false; trg = false; halt = false; bkpt = false; bstat = bstatRead (s .bstat); sync = s .sync }
+afterCsrRead s = withBstat (withBkpt (withHalt (withTrg (withFof s false) false) false) false) (bstatRead (s .bstat))
 
 -- "GO clears TRG, HALT, BKPT"; the processor runs
 abbrev pub afterGo : Status → Status
-afterGo s = record { halted = false; fof = s .fof; trg = false; halt = false; bkpt = false; bstat = s .bstat; sync = s .sync }
+afterGo s = withHalted (withBkpt (withHalt (withTrg s false) false) false) false
 
 -- SYNC_PC is pending until the next event
 abbrev pub afterSyncPc : Status → Status
-afterSyncPc s = record { halted = s .halted; fof = s .fof; trg = s .trg; halt = s .halt; bkpt = s .bkpt; bstat = s .bstat; sync = true }
+afterSyncPc s = withSync s true

@@ -2,9 +2,10 @@
 ghost use mathlib.Core.Path.{_≡_};
 ghost use Prim.Native.Nat.{_%_, _≤_};
 ghost use lib.ListN.{getD};
+ghost use Rattle.command.specs.declared.DebugRegister.the-variants.{Tdr};
 ghost use Rattle.registers.specs.Csr.{flag, csrWritten, csrValue, bstatRead, afterCsrRead, afterGo, afterSyncPc};
-ghost use Rattle.registers.specs.Registers.{controlPlace, controlListed, controlFetched, withControl, withGeneral, boardAfter};
-ghost use Rattle.registers.specs.Registers.{isTdr, armed, debugWritten, withDebugWritten};
+ghost use Rattle.registers.specs.Registers.{controlIndex, controlListed, controlFetched, controlWritten, generalWritten, boardAfter};
+ghost use Rattle.registers.specs.Registers.{is, armed, debugLoaded, debugWritten};
 use board::Board;
 use board::Debug;
 use board::Status;
@@ -90,9 +91,9 @@ fn after_sync_pc(status: Status) -> Status
     s
 }
 
-// The place among the ten control registers; 10 for a number that is none of them.
-fn place_of(number: u32) -> usize
-    ensures { λ r. ⌜ r ≡ controlPlace number ⌝ }
+// The index among the ten control registers; 10 for a number that is none of them.
+fn index_of(number: u32) -> usize
+    ensures { λ r. ⌜ r ≡ controlIndex number ⌝ }
 {
     match number {
         0x002 => 0,
@@ -120,13 +121,13 @@ pub fn general_of(board: Board, n: u32) -> u32
 pub fn is_listed(number: u32) -> bool
     ensures { λ r. ⌜ r ≡ controlListed number ⌝ }
 {
-    place_of(number) < 10
+    index_of(number) < 10
 }
 
 pub fn fetch_control(board: Board, number: u32) -> Fetch
     ensures { λ r. ⌜ r ≡ controlFetched board number ⌝ }
 {
-    let i = place_of(number);
+    let i = index_of(number);
     if i < 10 {
         let registers = board.registers;
         return Fetch::Value(registers.control[i]);
@@ -135,9 +136,9 @@ pub fn fetch_control(board: Board, number: u32) -> Fetch
 }
 
 fn set_control(board: Board, number: u32, value: u32) -> Board
-    ensures { λ r. ⌜ r ≡ withControl board number value ⌝ }
+    ensures { λ r. ⌜ r ≡ controlWritten board number value ⌝ }
 {
-    let i = place_of(number);
+    let i = index_of(number);
     if i < 10 {
         let mut registers = board.registers;
         registers.control[i] = value;
@@ -149,7 +150,7 @@ fn set_control(board: Board, number: u32, value: u32) -> Board
 }
 
 fn set_general(board: Board, n: u32, value: u32) -> Board
-    ensures { λ r. ⌜ r ≡ withGeneral board n value ⌝ }
+    ensures { λ r. ⌜ r ≡ generalWritten board n value ⌝ }
 {
     let mut registers = board.registers;
     let i = (n % 16) as usize;
@@ -160,7 +161,7 @@ fn set_general(board: Board, n: u32, value: u32) -> Board
 }
 
 fn write_debug(debug: Debug, register: DebugRegister, value: u32) -> Debug
-    ensures { λ r. ⌜ r ≡ debugWritten register value debug ⌝ }
+    ensures { λ r. ⌜ r ≡ debugLoaded register value debug ⌝ }
 {
     let mut d = debug;
     match register {
@@ -200,7 +201,7 @@ fn write_debug(debug: Debug, register: DebugRegister, value: u32) -> Debug
 }
 
 fn is_tdr(register: DebugRegister) -> bool
-    ensures { λ r. ⌜ r ≡ isTdr register ⌝ }
+    ensures { λ r. ⌜ r ≡ is register Tdr ⌝ }
 {
     match register {
         DebugRegister::Csr => false,
@@ -225,7 +226,7 @@ fn arm(status: Status, value: u32) -> Status
 }
 
 fn set_debug(board: Board, register: DebugRegister, value: u32) -> Board
-    ensures { λ r. ⌜ r ≡ withDebugWritten board register value ⌝ }
+    ensures { λ r. ⌜ r ≡ debugWritten board register value ⌝ }
 {
     let old = board.debug;
     let status = board.status;

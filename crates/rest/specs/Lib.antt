@@ -1,2 +1,2 @@
-pub mod ToGo
+pub mod ToGoLaws
 pub mod NopLaws

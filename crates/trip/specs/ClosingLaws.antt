@@ -13,7 +13,7 @@ use Rattle.work.specs.declared.Ending.{Ending}
 use Rattle.work.specs.declared.Ending.the-variants.{Complete as Completed, Failed, OneWord, TwoWords}
 use Rattle.work.specs.Work.{firstReply, phaseAfter}
 use Rattle.plan.specs.declared.Plan.the-variants.{Work}
-use Rattle.plan.specs.Plan.{withOperand, ready, collected}
+use Rattle.plan.specs.Plan.{withOperand, workAfter, collected}
 use Rattle.port.specs.Packets.{replyNow, planFor, placeNext, boardNext, memoryNext}
 use Rattle.port.specs.Run.{State, stateOf, stepped, ran, replies}
 use Rattle.requests.specs.declared.ResultKind.{ResultKind}
@@ -104,7 +104,7 @@ taken t (word ∷ words) = taken (withOperand t word) words
 
 module _ (kind : ResultKind) (c : Command) (s : State) (outcome : Outcome) (final : State) where
   pub waited : (k n address value : ℕ) → Closes kind (nops n) First (byPlan (Work c address value) s) outcome final
-      → Closes kind (nops (k + n)) First (byPlan (ready k c address value) s) outcome final
+      → Closes kind (nops (k + n)) First (byPlan (workAfter k c address value) s) outcome final
   unfolding replyNow
   waited zero n address value h = let none : 0 + n ≡ n = omega arith in rw (none, waits-none c address value) h
   waited (suc k) n address value h =

@@ -6,7 +6,7 @@ use lib.ListN.{length, getD, replicate}
 use Rattle.board.specs.declared.Phase.the-variants.{Rest}
 use Rattle.board.specs.declared.Chain.the-variants.{Off}
 use Rattle.board.specs.Board.{atRest}
-use Rattle.plan.specs.Plan.{lawful, waitsOf}
+use Rattle.plan.specs.Plan.{legalWord, waitsOf}
 use Rattle.port.specs.Packets.{replyNow}
 use Rattle.port.specs.Run.{State, stateOf, stepped}
 use Rattle.requests.specs.declared.Request.{Request}
@@ -73,7 +73,7 @@ exchanged request s = talked talkBudget request 1 First (stepped s (commandWord 
 -- ---- what an exchange from rest comes to
 -- the command word is legal there
 abbrev pub legalThere : Request → Scene → Bool
-legalThere request s = lawful (commandWord request) (s .board .status .halted) (s .chain)
+legalThere request s = legalWord (commandWord request) (s .board .status .halted) (s .chain)
 
 abbrev pub outcomeThere : Request → Scene → Outcome
 outcomeThere request s = cond (legalThere request s) (meaning request s .outcome) Illegal

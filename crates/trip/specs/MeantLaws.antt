@@ -11,7 +11,7 @@ use Rattle.command.specs.declared.Command.the-variants.{Unknown}
 use Rattle.command.specs.declared.Base.the-variants.{Address, Pointer}
 use Rattle.command.specs.Command.{decoded, operandWords}
 use Rattle.board.specs.declared.Chain.{Chain}
-use Rattle.plan.specs.Plan.{carriesC, legal, noOperands, addressIn, valueIn}
+use Rattle.plan.specs.Plan.{carriesC, legalCommand, noOperands, addressIn, valueIn}
 use Rattle.requests.specs.declared.Request.{Request}
 use Rattle.requests.specs.declared.Request.the-variants.{Rdreg, Wdreg, Read, Write, Dump, Fill, Go, Nop, SyncPc, Rcreg, Wcreg, Rdmreg, Wdmreg}
 use Rattle.requests.specs.declared.ResultKind.the-variants.{OfSize}
@@ -27,9 +27,9 @@ use Rattle.trip.specs.ClosingLaws.{taken}
 use Rattle.trip.specs.WorkLaws.{Meant, load-meant, store-meant, read-control-meant, write-control-meant, csr-fits, debug-meant}
 
 -- a legal word is a command's
-no-command : (c : Command) (halted : Bool) (chain : Chain) → legal c halted chain ≡ true → c ≡ Unknown → ⊥
+no-command : (c : Command) (halted : Bool) (chain : Chain) → legalCommand c halted chain ≡ true → c ≡ Unknown → ⊥
 no-command c halted chain l e =
-    let unknown : legal Unknown halted chain ≡ true = rw e at l in
+    let unknown : legalCommand Unknown halted chain ≡ true = rw e at l in
     let no : false ≡ true = both-hold (halted || true) false unknown .1 in
     let z : _≡_ {A = ℕ} 0 1 = cc in
     omega arith
@@ -37,7 +37,7 @@ no-command c halted chain l e =
 pub legal-is-known : (request : Request) (s : Scene) → inRange request ≡ true → legalThere request s ≡ true → commandOf request ≡ Unknown → ⊥
 legal-is-known request s h l e =
     no-command (decoded (commandWord request)) (s .board .status .halted) (s .chain)
-    (both-hold (not (carriesC (commandWord request))) (legal (decoded (commandWord request)) (s .board .status .halted) (s .chain)) l .1)
+    (both-hold (not (carriesC (commandWord request))) (legalCommand (decoded (commandWord request)) (s .board .status .halted) (s .chain)) l .1)
     (rw (decoded-as-meant request h) e)
 
 -- the address and the data that the port takes from a request's operand words

@@ -9,7 +9,7 @@ use Rattle.board.specs.declared.Chain.the-variants.{Off}
 use Rattle.board.specs.Board.{freshBoard, freshPlace}
 use Rattle.registers.specs.Csr.{csrValue}
 use Rattle.registers.specs.Registers.{controlPlace}
-use Rattle.plan.specs.Plan.{ready, collected, begun, continued}
+use Rattle.plan.specs.Plan.{workAfter, collected, begun, continued}
 use Rattle.port.specs.Packets.{planFor, replyNow, placeNext, boardNext, memoryNext}
 use Rattle.port.specs.Run.{stateOf, stepped, ran}
 use Rattle.requests.specs.declared.Request.the-variants.{Read, Write, Dump, Fill, Rcreg, Rdmreg}
@@ -68,5 +68,5 @@ rcreg-unlisted w m = refl
 
 -- after a READ's command word alone two NOPs and W are sent as operands and waits, and one carries the upper word out
 pub half-sent-rests : restNops restBudget (ran (0x1980 ∷ []) (stateOf (freshBoard 2) freshPlace sixteen)) ≡ 5
-unfolding restNops ran stepped freshBoard freshPlace replyNow placeNext boardNext memoryNext planFor begun continued collected ready decoded decodedWord fetched
+unfolding restNops ran stepped freshBoard freshPlace replyNow placeNext boardNext memoryNext planFor begun continued collected workAfter decoded decodedWord fetched
 half-sent-rests = refl

@@ -19,7 +19,7 @@ use Rattle.work.specs.Work.{endingOf, firstReply, phaseAfter, chainBy, chainAft
 use Rattle.registers.specs.Registers.{boardAfter}
 use Rattle.plan.specs.declared.Plan.{Plan}
 use Rattle.plan.specs.declared.Plan.the-variants.{Hold, Work}
-use Rattle.plan.specs.Plan.{withOperand, noOperands, addressIn, valueIn, waitsOf, ready, collected, begun, continued, lawful}
+use Rattle.plan.specs.Plan.{withOperand, noOperands, addressIn, valueIn, waitsOf, workAfter, collected, begun, continued, legalWord}
 use Rattle.port.specs.Packets.{chainDuring, placeBy, boardBy, memoryBy, planFor, placeNext, boardNext, memoryNext}
 use Rattle.port.specs.Run.{State, stateOf, stepped}
 use Rattle.port.specs.QuietLaws.{nop-plan}
@@ -68,15 +68,15 @@ abbrev pub under : Command → Phase → State → State
 under c phase s = stateOf (s .board) (record { phase = phase; chain = chainDuring c (s .place .chain); pointer = s .place .pointer; next = 0x10000 }) (s .memory)
 
 -- what is left decides the plan
-pub waits-none : (c : Command) (address value : ℕ) → ready 0 c address value ≡ Work c address value
-unfolding ready
+pub waits-none : (c : Command) (address value : ℕ) → workAfter 0 c address value ≡ Work c address value
+unfolding workAfter
 waits-none c address value = refl
 
-pub waits-more : (k : ℕ) (c : Command) (address value : ℕ) → ready (suc k) c address value ≡ Hold (Waiting c (suc k) address value)
-unfolding ready
+pub waits-more : (k : ℕ) (c : Command) (address value : ℕ) → workAfter (suc k) c address value ≡ Hold (Waiting c (suc k) address value)
+unfolding workAfter
 waits-more k c address value = rw (ne-eqb (suc k) 0 (omega arith))
 
-pub due-none : (w : ℕ) (c : Command) (t : Operands) → collected w 0 c t ≡ ready (waitsOf w c) c (addressIn (operandWords c) t) (valueIn (operandWords c) t)
+pub due-none : (w : ℕ) (c : Command) (t : Operands) → collected w 0 c t ≡ workAfter (waitsOf w c) c (addressIn (operandWords c) t) (valueIn (operandWords c) t)
 unfolding collected
 due-none w c t = refl
 
@@ -100,7 +100,7 @@ module _ (c : Command) (phase : Phase) (s : State) where
       (memoryAfter c (s .memory) (s .place .pointer) address value))
       (after-during ending c (s .place .chain))
 
-  ready-under : (k address value : ℕ) → byPlan (ready k c address value) (under c phase s) ≡ byPlan (ready k c address value) s
+  ready-under : (k address value : ℕ) → byPlan (workAfter k c address value) (under c phase s) ≡ byPlan (workAfter k c address value) s
   ready-under zero address value = rw (waits-none c address value) (work-under address value)
   ready-under (suc k) address value = rw (waits-more k c address value) (under-again (Waiting c (suc k) address value))
 
@@ -118,18 +118,18 @@ operand-taken n c t s word clear =
 
 -- a packet waited for
 pub wait-taken : (k : ℕ) (c : Command) (address value : ℕ) (s : State) (word : ℕ)
-    → stepped (under c (Waiting c (suc k) address value) s) word ≡ byPlan (ready k c address value) s
+    → stepped (under c (Waiting c (suc k) address value) s) word ≡ byPlan (workAfter k c address value) s
 unfolding stepped placeNext boardNext memoryNext planFor
 wait-taken k c address value s word = let one-less : suc k - 1 ≡ k = omega arith in rw one-less (ready-under c (Waiting c (suc k) address value) s k address value)
 
 -- "Every packet accepted at rest is a command word taken"
-pub command-taken : (c : Command) (word next : ℕ) (s : Scene) → decoded word ≡ c → lawful word (s .board .status .halted) (s .chain) ≡ true
+pub command-taken : (c : Command) (word next : ℕ) (s : Scene) → decoded word ≡ c → legalWord word (s .board .status .halted) (s .chain) ≡ true
     → stepped (resting s next) word ≡ byPlan (collected (s .board .w) (operandWords c) c noOperands) (resting s next)
 unfolding stepped placeNext boardNext memoryNext planFor begun
 command-taken c word next s d l = rw (l, d)
 
 -- ".. is illegal: the next reply is 0x1FFFF and the port is at rest"
-pub illegal-taken : (word next : ℕ) (s : Scene) → lawful word (s .board .status .halted) (s .chain) ≡ false → stepped (resting s next) word ≡ resting (unchained s) 0x1FFFF
+pub illegal-taken : (word next : ℕ) (s : Scene) → legalWord word (s .board .status .halted) (s .chain) ≡ false → stepped (resting s next) word ≡ resting (unchained s) 0x1FFFF
 unfolding stepped placeNext boardNext memoryNext planFor begun
 illegal-taken word next s l = rw l
 

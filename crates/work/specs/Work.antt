@@ -6,12 +6,14 @@ use Rattle.memory.specs.declared.Fetch.{Fetch}
 use Rattle.memory.specs.declared.Fetch.the-variants.{Value, BusError}
 use Rattle.command.specs.declared.Command.{Command}
 use Rattle.command.specs.declared.Command.the-variants.{Unknown, Nop, Load, Store, Show, Change}
+use Rattle.command.specs.Reply.{complete, busError}
 use Rattle.board.specs.declared.Board.{Board}
 use Rattle.board.specs.declared.Phase.{Phase}
 use Rattle.board.specs.declared.Phase.the-variants.{Rest, Low}
 use Rattle.board.specs.declared.Chain.{Chain}
 use Rattle.board.specs.declared.Chain.the-variants.{Off, Dumping, Filling}
 use Rattle.board.specs.declared.Place.{Place}
+use Rattle.board.specs.Setters.{placeWith}
 use Rattle.registers.specs.Registers.{shown, reached}
 use Rattle.work.specs.declared.Access.{Access}
 use Rattle.work.specs.declared.Access.the-variants.{NoAccess, Fetched, Stored, Missing}
@@ -47,8 +49,8 @@ endingOf (Change target) b address access = changeEnding (reached target address
 
 -- "Of two result words the upper comes first"; "S=0 with data, or 0x0FFFF complete; .. 0x10001 bus error"
 abbrev pub firstReply : Ending → ℕ
-firstReply Complete = 0x0FFFF
-firstReply Failed = 0x10001
+firstReply Complete = complete
+firstReply Failed = busError
 firstReply (OneWord v) = v
 firstReply (TwoWords v) = v / 65536
 
@@ -77,4 +79,4 @@ chainAfter (TwoWords v) c chain = chainBy c chain
 
 abbrev pub placeAfter : Command → Place → Access → Ending → Place
 placeAfter c p access ending =
-    record { phase = phaseAfter ending; chain = chainAfter ending c (p .chain); pointer = pointerAfter access (p .pointer); next = firstReply ending }
+    placeWith p (phaseAfter ending) (chainAfter ending c (p .chain)) (pointerAfter access (p .pointer)) (firstReply ending)

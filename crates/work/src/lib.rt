@@ -150,8 +150,8 @@ fn first_reply(ending: Ending) -> u32
     ensures { λ r. ⌜ r ≡ firstReply ending ⌝ }
 {
     match ending {
-        Ending::Complete => 0x0FFFF,
-        Ending::Failed => 0x10001,
+        Ending::Complete => command::COMPLETE,
+        Ending::Failed => command::BUS_ERROR,
         Ending::OneWord(value) => value,
         Ending::TwoWords(value) => value / 65536,
     }
@@ -207,10 +207,11 @@ pub fn settle(command: Command, place: Place, access: Access, ending: Ending) ->
     ensures { λ r. ⌜ r ≡ placeAfter command place access ending ⌝ }
 {
     let chain = place.chain;
-    Place {
-        phase: phase_after(ending),
-        chain: chain_after(ending, command, chain),
-        pointer: pointer_after(access, place.pointer),
-        next: first_reply(ending),
-    }
+    board::set_place(
+        place,
+        phase_after(ending),
+        chain_after(ending, command, chain),
+        pointer_after(access, place.pointer),
+        first_reply(ending),
+    )
 }

@@ -1,4 +1,4 @@
-use Rattle.port.specs.Packets.{packetVerdict}
+use Rattle.port.specs.Packet.{packetVerdict}
 use borrow.Author.Tests.{le-leb, lt-leb}
 use borrow.Author.Needs.{needs}
 use Rattle.port.proofs.judge_packet.Statement.{statement}

@@ -22,13 +22,15 @@ same-length : tie.Need-same-length
 same-length c = search needs
 
 returns : tie.Need-returns
-returns c = let accepted = sym (c .before .before .before .before .before .before .before .before .before .judge-packet .ensures) ∙ c .before .before .before .before .before .before .before .enum-told .given .1 in let next = c .before .before .before .before .take-word .ensures in record { answer = rw (accepted, ← c .before .before .before .before .before .before .reply-of .ensures); board = rw accepted (next .0); place = rw accepted (next .1); memory = rw accepted (next .2) }
+returns c =
+    let accepted = sym (c .before .before .before .before .before .before .before .before .before .judge-packet .ensures) ∙ c .before .before .before .before .before .before .before .enum-told .given .1 in
+    record { answer = rw (accepted, ← c .before .before .before .before .before .before .reply-of .ensures); state = rw accepted (c .before .before .before .before .take-word .ensures) }
 
 same-length-2 : tie.Need-same-length-2
 same-length-2 c = search needs
 
 returns-2 : tie.Need-returns-2
-returns-2 c = let refused = sym (c .before .before .before .judge-packet .ensures) ∙ c .before .ground .given .1 in record { answer = rw refused; board = rw refused; place = rw refused; memory = rw refused }
+returns-2 c = let refused = sym (c .before .before .before .judge-packet .ensures) ∙ c .before .ground .given .1 in record { answer = rw refused; state = rw refused }
 
 pub take-packet-spec : {M : Type 1} → statement M
 take-packet-spec =

@@ -4,8 +4,8 @@ use borrow.Author.Needs.{needs}
 use Rattle.registers.proofs.fetch_control.Statement.{statement}
 use Rattle.registers.proofs.fetch_control.Tie as tie
 
-place-of-requires : tie.Need-place-of-requires
-place-of-requires c κs = search needs
+index-of-requires : tie.Need-index-of-requires
+index-of-requires c κs = search needs
 
 mul-t6 : tie.Need-mul-t6
 mul-t6 c = search needs
@@ -15,12 +15,12 @@ element-copy-out-t9 c = search needs
 
 returns : tie.Need-returns
 unfolding controlFetched
-returns c = rw (← c .before .before .before .place-of .ensures, lt-ltb _ _ (c .before .before .if1 .taken))
+returns c = rw (← c .before .before .before .index-of .ensures, lt-ltb _ _ (c .before .before .if1 .taken))
 
 returns-2 : tie.Need-returns-2
 unfolding controlFetched
-returns-2 c = rw (← c .before .place-of .ensures, le-ltb _ _ (c .if1 .left))
+returns-2 c = rw (← c .before .index-of .ensures, le-ltb _ _ (c .if1 .left))
 
 pub fetch-control-spec : {M : Type 1} → statement M
 fetch-control-spec =
-    tie.close (tie.spec place-of-requires mul-t6 element-copy-out-t9 returns returns-2)
+    tie.close (tie.spec index-of-requires mul-t6 element-copy-out-t9 returns returns-2)

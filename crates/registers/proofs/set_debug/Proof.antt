@@ -1,4 +1,4 @@
-use Rattle.registers.specs.Registers.{withDebugWritten}
+use Rattle.registers.specs.Registers.{debugWritten}
 use borrow.Author.Needs.{needs}
 use Rattle.registers.proofs.set_debug.Statement.{statement}
 use Rattle.registers.proofs.set_debug.Tie as tie
@@ -13,11 +13,11 @@ arm-requires : tie.Need-arm-requires
 arm-requires c κs = search needs
 
 returns : tie.Need-returns
-unfolding withDebugWritten
+unfolding debugWritten
 returns c = rw (← c .before .before .before .write-debug .ensures, ← c .before .before .is-tdr .ensures, c .before .if1 .taken, ← c .arm .ensures)
 
 returns-2 : tie.Need-returns-2
-unfolding withDebugWritten
+unfolding debugWritten
 returns-2 c = rw (← c .before .before .write-debug .ensures, ← c .before .is-tdr .ensures, c .if1 .left)
 
 pub set-debug-spec : {M : Type 1} → statement M

@@ -14,8 +14,13 @@ pointer-after-requires c κs = search needs
 first-reply-requires : tie.Need-first-reply-requires
 first-reply-requires c κs = search needs
 
+set-place-requires : tie.Need-set-place-requires
+set-place-requires c κs = search needs
+
 returns : tie.Need-returns
-returns c = rw (← c .before .before .before .phase-after .ensures, ← c .before .before .chain-after .ensures, ← c .before .pointer-after .ensures, ← c .first-reply .ensures)
+returns c =
+    rw (← c .before .before .before .before .phase-after .ensures, ← c .before .before .before .chain-after .ensures, ← c .before .before .pointer-after .ensures, ← c .before .first-reply .ensures)
+    (c .set-place .ensures)
 
 pub settle-spec : {M : Type 1} → statement M
 settle-spec =
@@ -25,4 +30,5 @@ settle-spec =
     chain-after-requires
     pointer-after-requires
     first-reply-requires
+    set-place-requires
     returns)

@@ -1,0 +1,142 @@
+-- What the desk checks by eye (01): P4 and P5.
+use Prim.Native.Nat.{ℕ, _%_}
+use mathlib.Core.Path.{_≡_, refl, sym, ap, _∙_, subst}
+use mathlib.Core.Bool.{Bool, true, false}
+use mathlib.Core.List.{[]}
+use lib.Dec.{eqb, leb}
+use lib.Bits.{bitOr}
+use borrow.Author.Tests.{eq-eqb}
+use Rattle.command.specs.declared.DebugRegister.{DebugRegister}
+use Rattle.command.specs.declared.DebugRegister.the-variants.{Aatr, Tdr, Pbr, Pbmr, Ablr}
+use Rattle.command.specs.Command as command
+use Rattle.grounds.specs.Grounds.{noRefusal}
+use Rattle.board.specs.declared.Board.{Board}
+use Rattle.board.specs.Board.{freshBoard, freshPlace}
+use Rattle.board.specs.Ranges.{inRange, bstatInRange}
+use Rattle.board.specs.Setters.{withStatus, withHalted, withTrg, withBstat}
+use Rattle.registers.specs.Csr.{csrValue}
+use Rattle.registers.specs.Registers.{boardAfter, debugLoaded, debugWritten}
+use Rattle.trigger.specs.declared.Event.{Event}
+use Rattle.groups.specs.declared.Bus.the-variants.{Idle, Carries}
+use Rattle.comparators.specs.Masks.{agree}
+use Rattle.trigger.specs.Levels.{levelOf}
+use Rattle.comparators.specs.Comparators.{dataEnabled}
+use Rattle.groups.specs.Groups.{pcGroup, addressMatches, attributeAgrees, addressGroup, joined}
+use Rattle.trigger.specs.Fired.{fires, firedLevel}
+use Rattle.bus.specs.Firing.{bstatAfter, responds, firing, seen, statusAfter}
+use Rattle.bus.specs.EventAnswers.{EventTold, toldEvent}
+use Rattle.bus.specs.Events.{eventVerdict, eventOutcome, boardAfterEvent}
+
+abbrev wdmreg : DebugRegister → ℕ → Board → Board
+wdmreg r value b = boardAfter (command.wdmreg r) b 0 value
+
+abbrev go : Board → Board
+go b = boardAfter command.go b 0 0
+
+abbrev start : ℕ → Event
+start pc = record { pc = pc; bus = Idle }
+
+abbrev answered : Board → Event → EventTold
+answered b event = toldEvent (eventOutcome b freshPlace event)
+
+abbrev after : Board → Event → Board
+after b event = boardAfterEvent b freshPlace event
+
+abbrev fired : ℕ → Bool → EventTold
+fired level halts = record { refusal = noRefusal; level = level; halted = halts; interrupt = false; captured = [] }
+
+-- "PBR 0x1000, PBMR 0xF, TDR 0x40002002, GO"
+abbrev p4Board : ℕ → Board
+p4Board w = go (wdmreg Tdr 0x40002002 (wdmreg Pbmr 0xF (wdmreg Pbr 0x1000 (freshBoard w))))
+
+-- what that comes to
+abbrev p4Set : ℕ → Board
+p4Set w = record {
+  w = w;
+  status = record { halted = false; fof = false; trg = false; halt = false; bkpt = false; bstat = 1; sync = false };
+  registers = freshBoard w .registers;
+  debug = record { csr = 0; baar = 0x05; aatr = 0x0005; tdr = 0x40002002; pbr = 0x1000; pbmr = 0xF; abhr = 0; ablr = 0; dbr = 0; dbmr = 0 };
+}
+
+p4-set : (w : ℕ) → p4Board w ≡ p4Set w
+unfolding freshBoard debugLoaded debugWritten
+p4-set w = refl
+
+-- "PC 0x1010 doesn't fire, 0x100E does; CSR is 0x24100000"
+pub record P4 (b : Board) : Type 0 where
+  pub outside : answered b (start 0x1010) ≡ fired 0 false
+  pub inside : answered (after b (start 0x1010)) (start 0x100E) ≡ fired 1 true
+  pub csr : csrValue (after (after b (start 0x1010)) (start 0x100E)) ≡ 0x24100000
+
+-- the event that fires nothing changes nothing
+p4-passes : (w : ℕ) → leb w 15 ≡ true → after (p4Set w) (start 0x1010) ≡ p4Set w
+unfolding freshPlace inRange bstatInRange agree levelOf pcGroup addressGroup joined fires firedLevel bstatAfter responds firing statusAfter eventVerdict
+p4-passes w allowed = rw allowed
+
+-- the other halts
+p4-fires : (w : ℕ) → leb w 15 ≡ true → after (p4Set w) (start 0x100E) ≡ withStatus (p4Set w) (withBstat (withTrg (withHalted (p4Set w .status) true) true) 2)
+unfolding freshPlace inRange bstatInRange agree levelOf pcGroup addressGroup joined fires firedLevel bstatAfter responds firing statusAfter eventVerdict
+p4-fires w allowed = rw allowed
+
+p4-answers : (w : ℕ) → leb w 15 ≡ true → (answered (p4Set w) (start 0x1010) ≡ fired 0 false) × (answered (p4Set w) (start 0x100E) ≡ fired 1 true)
+unfolding freshPlace inRange bstatInRange agree levelOf pcGroup addressGroup joined fires firedLevel bstatAfter responds firing seen eventVerdict
+p4-answers w allowed = (rw allowed, rw allowed)
+
+p4-of-set : (w : ℕ) → leb w 15 ≡ true → P4 (p4Set w)
+unfolding csrValue
+p4-of-set w allowed = record {
+  outside = p4-answers w allowed .0;
+  inside = ap (λ (b : Board). answered b (start 0x100E)) (p4-passes w allowed) ∙ p4-answers w allowed .1;
+  csr = ap csrValue (ap (λ (b : Board). after b (start 0x100E)) (p4-passes w allowed) ∙ p4-fires w allowed);
+}
+
+-- at any wait setting
+pub p4 : (w : ℕ) → leb w 15 ≡ true → P4 (p4Board w)
+p4 w allowed = subst P4 (sym (p4-set w)) (p4-of-set w allowed)
+
+-- "running, AATR 0x0005, TDR 0x20042002"
+abbrev p5Board : ℕ → ℕ → ℕ → Board
+p5Board w pbr ablr = go (wdmreg Tdr 0x20042002 (wdmreg Aatr 0x0005 (wdmreg Ablr ablr (wdmreg Pbr pbr (freshBoard w)))))
+
+abbrev p5Set : ℕ → ℕ → ℕ → ℕ → Board
+p5Set bstat w pbr ablr = record {
+  w = w;
+  status = record { halted = false; fof = false; trg = false; halt = false; bkpt = false; bstat = bstat; sync = false };
+  registers = freshBoard w .registers;
+  debug = record { csr = 0; baar = 0x05; aatr = 0x0005; tdr = 0x20042002; pbr = pbr; pbmr = 0; abhr = 0; ablr = ablr; dbr = 0; dbmr = 0 };
+}
+
+p5-set : (w pbr ablr : ℕ) → p5Board w pbr ablr ≡ p5Set 1 w pbr ablr
+unfolding freshBoard debugLoaded debugWritten
+p5-set w pbr ablr = refl
+
+-- "an event with PC equal to PBR, address equal to ABLR, attribute 0x05"
+abbrev p5Event : ℕ → ℕ → ℕ → Event
+p5Event pbr ablr lanes = record { pc = pbr; bus = Carries (record { address = ablr; attribute = 0x05; lanes = lanes }) }
+
+self : (n : ℕ) → eqb n n ≡ true
+self n = eq-eqb n n refl
+
+module _ (w pbr ablr lanes : ℕ) (allowed : leb w 15 ≡ true) (even : eqb (pbr % 2) 0 ≡ true) where
+  p5-one : after (p5Set 1 w pbr ablr) (p5Event pbr ablr lanes) ≡ p5Set 5 w pbr ablr
+  unfolding freshPlace inRange bstatInRange agree levelOf pcGroup addressMatches attributeAgrees dataEnabled addressGroup joined fires firedLevel bstatAfter responds firing statusAfter eventVerdict
+  p5-one = rw (allowed, even, self (bitOr pbr 0))
+
+  p5-two : after (p5Set 5 w pbr ablr) (p5Event pbr ablr lanes) .status .bstat ≡ 6
+  unfolding freshPlace inRange bstatInRange agree levelOf pcGroup addressMatches attributeAgrees dataEnabled addressGroup joined fires firedLevel bstatAfter responds firing statusAfter eventVerdict
+  p5-two = rw (allowed, even, self ablr)
+
+-- "twice it gives BSTAT 5, then 6"
+pub record P5 (b : Board) (e : Event) : Type 0 where
+  pub first : after b e .status .bstat ≡ 5
+  pub second : after (after b e) e .status .bstat ≡ 6
+
+-- at any wait setting, for any PBR that the PC of an event can equal, any ABLR and any data
+pub p5 : (w pbr ablr lanes : ℕ) → leb w 15 ≡ true → eqb (pbr % 2) 0 ≡ true → P5 (p5Board w pbr ablr) (p5Event pbr ablr lanes)
+p5 w pbr ablr lanes allowed even =
+    let one = p5-one w pbr ablr lanes allowed even in
+    subst (λ (b : Board). P5 b (p5Event pbr ablr lanes)) (sym (p5-set w pbr ablr))
+    (record {
+      first = ap (λ (b : Board). b .status .bstat) one;
+      second = ap (λ (b : Board). after b (p5Event pbr ablr lanes) .status .bstat) one ∙ p5-two w pbr ablr lanes allowed even;
+    })

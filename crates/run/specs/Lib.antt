@@ -1,0 +1,5 @@
+pub mod Run
+pub mod RunUnique
+pub mod RunMirror
+pub mod RunLaws
+pub mod ShortWayLaws

@@ -1,0 +1,4 @@
+pub mod Sound
+pub mod SoundPlanLaws
+pub mod SoundWorkLaws
+pub mod SoundLaws

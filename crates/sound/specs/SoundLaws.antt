@@ -1,0 +1,217 @@
+-- Laws: a fresh board is sound, a sound state is within the ranges of 12, and a packet keeps it sound.
+use Prim.Native.Nat.{ℕ, zero, suc, _/_, _%_, _^_, _≤_, _<_}
+use native.Mathlib.Omega.{arith}
+use mathlib.Core.Path.{_≡_, refl}
+use mathlib.Core.Bool.{Bool, true, false, cond, _||_}
+use mathlib.Core.List.{List}
+use lib.Dec.{eqb}
+use lib.Bits.{and-le-r}
+use lib.ListN.{set, replicate}
+use borrow.Author.Tests.{le-leb}
+use Rattle.laws.specs.Tests.{either}
+use Rattle.memory.specs.MemoryLaws.{AllBelow, set-keeps-below}
+use Rattle.command.specs.declared.DebugRegister.{DebugRegister}
+use Rattle.command.specs.declared.DebugRegister.the-variants.{Csr, Baar, Aatr, Tdr, Pbr, Pbmr, Abhr, Ablr, Dbr, Dbmr}
+use Rattle.command.specs.declared.Command.{Command}
+use Rattle.command.specs.Command.{operandWords}
+use Rattle.board.specs.declared.Board.{Board}
+use Rattle.board.specs.declared.Status.{Status}
+use Rattle.board.specs.declared.Debug.{Debug}
+use Rattle.board.specs.declared.Phase.{Phase}
+use Rattle.board.specs.declared.Phase.the-variants.{Rest, Due, Waiting, Low}
+use Rattle.board.specs.declared.Place.{Place}
+use Rattle.board.specs.Board.{freshBoard, freshPlace}
+use Rattle.board.specs.Ranges.{phaseInRange, bstatInRange, inRange}
+use Rattle.registers.specs.Csr.{csrWritten, bstatRead}
+use Rattle.registers.specs.Registers.{is, controlIndex, controlListed, armed, debugLoaded, generalWritten, controlWritten, debugWritten, boardAfter}
+use Rattle.registers.specs.ChangeLaws.{each-change}
+use Rattle.plan.specs.declared.Plan.{Plan}
+use Rattle.plan.specs.declared.Plan.the-variants.{Hold, Reject, Release, Work}
+use Rattle.plan.specs.Plan.{planOf}
+use Rattle.board.specs.Setters.{withStatus, withRegisters, withGeneral, withControl}
+use Rattle.board.specs.State.{State, standingOf}
+use Rattle.step.specs.Step.{left, planFor, stepped}
+use Rattle.sound.specs.SoundPlanLaws.{PlanWithin, plan-within}
+use Rattle.sound.specs.SoundWorkLaws.{work-keeps-memory, work-keeps-place}
+use Rattle.sound.specs.Sound.{DebugWithin, SoundBoard, PhaseWithin, SoundPlace, SoundMemory, Sound}
+
+-- ---- the board
+loaded : (k : ℕ) (t : Bool) (x y : ℕ) → x < k → y < k → cond t x y < k
+loaded k true x y f g = f
+loaded k false x y f g = g
+
+debug-keeps : (r : DebugRegister) (v : ℕ) (d : Debug) → v < 2 ^ 32 → DebugWithin d → DebugWithin (debugLoaded r v d)
+unfolding debugLoaded
+debug-keeps r v d f h =
+    record {
+      csr = loaded (2 ^ 32) (is r Csr) (csrWritten v) (d .csr) (omega (arith, and-le-r v 0x0007FF70)) (h .csr);
+      baar = loaded (2 ^ 8) (is r Baar || is r Aatr) (v % 2 ^ 8) (d .baar) (omega arith) (h .baar);
+      aatr = loaded (2 ^ 16) (is r Aatr) (v % 2 ^ 16) (d .aatr) (omega arith) (h .aatr);
+      tdr = loaded (2 ^ 32) (is r Tdr) v (d .tdr) f (h .tdr);
+      pbr = loaded (2 ^ 32) (is r Pbr) v (d .pbr) f (h .pbr);
+      pbmr = loaded (2 ^ 32) (is r Pbmr) v (d .pbmr) f (h .pbmr);
+      abhr = loaded (2 ^ 32) (is r Abhr) v (d .abhr) f (h .abhr);
+      ablr = loaded (2 ^ 32) (is r Ablr) v (d .ablr) f (h .ablr);
+      dbr = loaded (2 ^ 32) (is r Dbr) v (d .dbr) f (h .dbr);
+      dbmr = loaded (2 ^ 32) (is r Dbmr) v (d .dbmr) f (h .dbmr);
+    }
+
+armed-in-range : (v : ℕ) → bstatInRange (v / 2 ^ 13 % 2) ≡ true
+unfolding bstatInRange
+armed-in-range v = by-bit (v / 2 ^ 13 % 2) (omega arith)
+  where
+    by-bit : (x : ℕ) → x < 2 → bstatInRange x ≡ true
+    by-bit zero h = refl
+    by-bit (suc zero) h = refl
+    by-bit (suc (suc n)) h = absurd (omega arith)
+
+read-in-range : (s : ℕ) → bstatInRange s ≡ true → bstatInRange (bstatRead s) ≡ true
+unfolding bstatRead bstatInRange
+read-in-range s h = either (λ x. bstatInRange x ≡ true) (eqb s 2 || eqb s 6) 0 s (λ e. refl) (λ e. h)
+
+module _ (w : ℕ) (b : Board) (h : SoundBoard w b) where
+  -- another status, with BSTAT in its range
+  pub status-keeps : (s : Status) → bstatInRange (s .bstat) ≡ true → SoundBoard w (withStatus b s)
+  status-keeps s e = record { setting = h .setting; small = h .small; bstat = e; general = h .general; control = h .control; debug = h .debug }
+
+  general-keeps : (n v : ℕ) → v < 2 ^ 32 → SoundBoard w (generalWritten b n v)
+  general-keeps n v f = record {
+    setting = h .setting;
+    small = h .small;
+    bstat = h .bstat;
+    general = set-keeps-below (2 ^ 32) (b .registers .general) (n % 16) v (h .general) f;
+    control = h .control;
+    debug = h .debug;
+  }
+
+  control-keeps : (n v : ℕ) → v < 2 ^ 32 → SoundBoard w (controlWritten b n v)
+  unfolding controlWritten
+  control-keeps n v f =
+      either (SoundBoard w) (controlListed n) (withRegisters b (withControl (b .registers) (set (b .registers .control) (controlIndex n) v))) b
+      (λ e.
+      record {
+        setting = h .setting;
+        small = h .small;
+        bstat = h .bstat;
+        general = h .general;
+        control = set-keeps-below (2 ^ 32) (b .registers .control) (controlIndex n) v (h .control) f;
+        debug = h .debug;
+      })
+      (λ e. h)
+
+  debug-write-keeps : (r : DebugRegister) (v : ℕ) → v < 2 ^ 32 → SoundBoard w (debugWritten b r v)
+  unfolding debugWritten
+  debug-write-keeps r v f = record {
+    setting = h .setting;
+    small = h .small;
+    bstat = either (λ (s : Status). bstatInRange (s .bstat) ≡ true) (is r Tdr) (armed (b .status) v) (b .status) (λ e. armed-in-range v) (λ e. h .bstat);
+    general = h .general;
+    control = h .control;
+    debug = debug-keeps r v (b .debug) f (h .debug);
+  }
+
+  work-keeps-board : (c : Command) (address value : ℕ) → value < 2 ^ 32 → SoundBoard w (boardAfter c b address value)
+  work-keeps-board c a v f =
+      each-change (λ change. SoundBoard w (change b)) a v
+      (record {
+        none = h;
+        csrRead = status-keeps _ (read-in-range (b .status .bstat) (h .bstat));
+        general = λ n. general-keeps n v f;
+        control = control-keeps a v f;
+        debug = λ r. debug-write-keeps r v f;
+        go = status-keeps _ (h .bstat);
+        syncPc = status-keeps _ (h .bstat);
+      })
+      c
+
+-- ---- the packet
+module _ (w : ℕ) (s : State) (h : SoundBoard w (s .board)) (k : SoundPlace w (s .place)) (l : SoundMemory (s .memory)) where
+  plan-keeps-place : (plan : Plan) → PlanWithin w plan → SoundPlace w (left plan s .place)
+  plan-keeps-place (Hold phase) f = record { phase = f; next = omega arith; pointer = k .pointer }
+  plan-keeps-place Reject f = record { phase = tt; next = omega arith; pointer = k .pointer }
+  plan-keeps-place (Release low) f = record { phase = tt; next = omega arith; pointer = k .pointer }
+  plan-keeps-place (Work c a v) f = work-keeps-place w c (s .board) (s .place) (s .memory) a h k l
+
+  plan-keeps-board : (plan : Plan) → PlanWithin w plan → SoundBoard w (left plan s .board)
+  plan-keeps-board (Hold phase) f = h
+  plan-keeps-board Reject f = h
+  plan-keeps-board (Release low) f = h
+  plan-keeps-board (Work c a v) f = work-keeps-board w (s .board) h c a v (f .1)
+
+  plan-keeps-memory : (plan : Plan) → SoundMemory (left plan s .memory)
+  plan-keeps-memory (Hold phase) = l
+  plan-keeps-memory Reject = l
+  plan-keeps-memory (Release low) = l
+  plan-keeps-memory (Work c a v) = work-keeps-memory c (s .memory) (s .place .pointer) a v l
+
+  within : (word : ℕ) → PlanWithin w (planFor (s .board) (s .place) word)
+  unfolding planFor
+  within word = rw (h .setting) (plan-within (s .place .phase) (standingOf (s .board) (s .place)) w word (k .phase))
+
+  pub packet-keeps-place : (word : ℕ) → SoundPlace w (stepped s word .place)
+  unfolding stepped
+  packet-keeps-place word = plan-keeps-place (planFor (s .board) (s .place) word) (within word)
+
+  pub packet-keeps-board : (word : ℕ) → SoundBoard w (stepped s word .board)
+  unfolding stepped
+  packet-keeps-board word = plan-keeps-board (planFor (s .board) (s .place) word) (within word)
+
+  pub packet-keeps-memory : (word : ℕ) → SoundMemory (stepped s word .memory)
+  unfolding stepped
+  packet-keeps-memory word = plan-keeps-memory (planFor (s .board) (s .place) word)
+
+pub packet-keeps-sound : {s : State} → Sound s → (word : ℕ) → Sound (stepped s word)
+packet-keeps-sound {s} f word =
+    let w = s .board .w in
+    let board : SoundBoard w (stepped s word .board) = packet-keeps-board w s (f .board) (f .place) (f .memory) word in
+    record {
+      board = rw (board .setting) board;
+      place = rw (board .setting) (packet-keeps-place w s (f .board) (f .place) (f .memory) word);
+      memory = packet-keeps-memory w s (f .board) (f .place) (f .memory) word;
+    }
+
+-- ---- the ranges of 12
+phase-in-range : (w : ℕ) (phase : Phase) → PhaseWithin w phase → phaseInRange w phase ≡ true
+phase-in-range w Rest h = refl
+phase-in-range w (Due c left t) h = rw (le-leb 1 left (h .0), le-leb left (operandWords c) (h .1))
+phase-in-range w (Waiting c left a v) h = rw (le-leb 1 left (h .0), le-leb left w (h .1)) (h .2)
+phase-in-range w (Low low) h = refl
+
+pub sound-is-in-range : (w : ℕ) (b : Board) (p : Place) → SoundBoard w b → SoundPlace w p → inRange b p ≡ true
+unfolding inRange
+sound-is-in-range w b p h k =
+    rw (h .setting, le-leb w 15 (h .small), h .bstat, phase-in-range w (p .phase) (k .phase), le-leb (p .next) 0x1FFFF (k .next), le-leb (p .pointer) 65536 (k .pointer))
+
+-- ---- a fresh board
+zeros-below : (n k : ℕ) → 1 ≤ k → AllBelow k (replicate n 0)
+zeros-below zero k h i = omega arith
+zeros-below (suc n) k h zero = omega arith
+zeros-below (suc n) k h (suc i) = zeros-below n k h i
+
+pub fresh-board-is-sound : (w : ℕ) → w ≤ 15 → SoundBoard w (freshBoard w)
+unfolding freshBoard bstatInRange
+fresh-board-is-sound w h =
+    record {
+      setting = refl;
+      small = h;
+      bstat = refl;
+      general = zeros-below 16 (2 ^ 32) (omega arith);
+      control = zeros-below 10 (2 ^ 32) (omega arith);
+      debug =
+          record {
+            csr = omega arith;
+            baar = omega arith;
+            aatr = omega arith;
+            tdr = omega arith;
+            pbr = omega arith;
+            pbmr = omega arith;
+            abhr = omega arith;
+            ablr = omega arith;
+            dbr = omega arith;
+            dbmr = omega arith;
+          };
+    }
+
+pub fresh-place-is-sound : (w : ℕ) → SoundPlace w freshPlace
+unfolding freshPlace
+fresh-place-is-sound w = record { phase = tt; next = omega arith; pointer = omega arith }

@@ -1,0 +1,1 @@
+// What every packet keeps: ranges and widths; no code.
