@@ -6,8 +6,7 @@ use lib.Dec.{leb}
 use lib.ListN.{length, drop}
 use Rattle.grounds.specs.declared.Ground.the-variants.{BufferTooShort, RequestOutOfRange}
 use Rattle.grounds.specs.declared.Verdict.{Verdict}
-use Rattle.grounds.specs.declared.Verdict.the-variants.{Accepted, Refused}
-use Rattle.grounds.specs.Grounds.{check, judge, Refusal, noRefusal, refusalOf}
+use Rattle.grounds.specs.Grounds.{check, judge, Refusal, noRefusal, refusalOf, told, ifAccepted}
 use Rattle.requests.specs.declared.Request.{Request}
 use Rattle.building.specs.declared.Built.{Built}
 use Rattle.building.specs.declared.Built.the-variants.{Words, Refused as RefusedToBuild}
@@ -28,16 +27,15 @@ abbrev pub toldBuilt : Built → BuiltOnPaper
 toldBuilt (Words count) = record { refusal = noRefusal; count = count }
 toldBuilt (RefusedToBuild ground) = record { refusal = refusalOf ground; count = 0 }
 
-abbrev pub builtAt : Verdict → Request → Built
-builtAt Accepted request = Words (length (builtWords request))
-builtAt (Refused ground) request = RefusedToBuild ground
+-- .. and what it has to say
+abbrev pub dueBuilt : Verdict → Request → BuiltOnPaper
+dueBuilt verdict request = record { refusal = told verdict; count = ifAccepted verdict (length (builtWords request)) 0 }
 
--- the words at the front and the rest as it was; "result buffers stay as given" where it is refused
+-- the words at the front and the rest as it was
 abbrev pub bufferAt : Verdict → Request → List ℕ → List ℕ
-bufferAt Accepted request before = builtWords request ++ drop (length (builtWords request)) before
-bufferAt (Refused ground) request before = before
+bufferAt verdict request before = ifAccepted verdict (builtWords request ++ drop (length (builtWords request)) before) before
 
 -- the promise of building
 pub record BuildingMeets (request : Request) (before : List ℕ) (r : Built) (after : List ℕ) : Type 0 where
-  pub answer : toldBuilt r ≡ toldBuilt (builtAt (buildingVerdict request (length before)) request)
+  pub answer : toldBuilt r ≡ dueBuilt (buildingVerdict request (length before)) request
   pub buffer : after ≡ bufferAt (buildingVerdict request (length before)) request before
