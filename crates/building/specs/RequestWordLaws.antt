@@ -60,7 +60,7 @@ built-clear (Fill size value) h = (omega (arith, size-code-bound size), data-cle
 built-clear Go h = (omega arith, tt)
 built-clear Nop h = (omega arith, tt)
 built-clear SyncPc h = (omega arith, tt)
-built-clear (Rcreg rc) h = (omega arith, halves-clear rc (omega (arith, leb-true rc 0xFFF h)))
+built-clear (Rcreg rc) h = let small = leb-true rc 0xFFF h in (omega arith, (omega arith, (omega arith, tt)))
 built-clear (Wcreg rc value) h =
     let ranges = both-hold (dataInRange Long value) _ h in
     (omega arith, clear-append (halves rc) (halves value) (halves-clear rc (omega (arith, leb-true rc 0xFFF (ranges .1)))) (long-clear value (ranges .0)))
