@@ -54,7 +54,8 @@ built-clear (Wdreg register value) h =
 built-clear (Read size address) h = (omega (arith, size-code-bound size), long-clear address h)
 built-clear (Write size address value) h =
     let ranges = both-hold (dataInRange Long address) _ h in
-    (omega (arith, size-code-bound size), clear-append (halves address) (dataWords size value) (long-clear address (ranges .0)) (data-clear size value (ranges .1)))
+    let sent = data-clear size value (ranges .1) in
+    (omega (arith, size-code-bound size), clear-append (halves address) (dataWords size value) (long-clear address (ranges .0)) sent)
 built-clear (Dump size) h = (omega (arith, size-code-bound size), tt)
 built-clear (Fill size value) h = (omega (arith, size-code-bound size), data-clear size value h)
 built-clear Go h = (omega arith, tt)
