@@ -19,9 +19,9 @@ use Rattle.port.specs.Sound.{Sound}
 use Rattle.port.specs.SoundLaws.{sound-is-in-range}
 use Rattle.requests.specs.declared.Request.{Request}
 use Rattle.requests.specs.declared.Request.the-variants.{Read, Write}
-use Rattle.requests.specs.declared.Outcome.the-variants.{Value}
+use Rattle.readings.specs.declared.Outcome.the-variants.{Value}
 use Rattle.requests.specs.Request.{dataInRange, inRange}
-use Rattle.requests.specs.WordLaws.{and-left}
+use Rattle.laws.specs.Tests.{both-hold}
 use Rattle.trip.specs.Meaning.{Scene, meaning}
 use Rattle.trip.specs.Exchange.{resting, sceneOf, restBudget, legalThere, outcomeThere, stateThere, packetsThere}
 use Rattle.trip.specs.StepLaws.{by-test}
@@ -105,6 +105,6 @@ write-is-read-back {size} {address} {value} {s} {next} {r} {q} {after} {last} h 
     let left : Scene = meaning w s .leaves in
     let written = ends-as-meant h f (write-legal size address value s) wrote in
     let sound = left-sound w s next h (write-legal size address value s) f in
-    let asked : inRange (Read size address) ≡ true = and-left (dataInRange Long address) (dataInRange size value) h in
+    let asked : inRange (Read size address) ≡ true = both-hold (dataInRange Long address) (dataInRange size value) h .0 in
     let again = ends-as-meant asked sound (read-legal size address left) (subst (λ (x : State). ExchangeMeets (Read size address) (x .board) (x .place) (x .memory) q last) (written .state) read) in
     again .answer ∙ ap (λ o. Ended o (packetsThere (Read size address) left)) (write-then-read size address value s h there .reads)

@@ -17,8 +17,8 @@ use Rattle.board.specs.Ranges.{inRange as stateInRange}
 use Rattle.port.specs.Run.{State, stateOf}
 use Rattle.port.specs.Sound.{Sound}
 use Rattle.requests.specs.declared.Request.{Request}
-use Rattle.requests.specs.declared.Reader.{Reader}
-use Rattle.requests.specs.declared.Reader.the-variants.{Closed}
+use Rattle.readings.specs.declared.Reader.{Reader}
+use Rattle.readings.specs.declared.Reader.the-variants.{Closed}
 use Rattle.requests.specs.Request.{inRange}
 use Rattle.trip.specs.Exchange.{rested, restNops, restBudget, Talk, talk, exchanged, outcomeThere, stateThere, packetsThere}
 use Rattle.trip.specs.RestLaws.{comes-to-rest, rest-keeps-sound, rest-nops-bound}

@@ -11,11 +11,11 @@ use Rattle.board.specs.declared.Board.{Board}
 use Rattle.board.specs.declared.Place.{Place}
 use Rattle.board.specs.Ranges.{inRange as stateInRange}
 use Rattle.requests.specs.declared.Request.{Request}
-use Rattle.requests.specs.declared.Outcome.{Outcome}
-use Rattle.requests.specs.declared.Reader.{Reader}
-use Rattle.requests.specs.declared.Reader.the-variants.{First, Second, Closed, Bad}
+use Rattle.readings.specs.declared.Outcome.{Outcome}
+use Rattle.readings.specs.declared.Reader.{Reader}
+use Rattle.readings.specs.declared.Reader.the-variants.{First, Second, Closed, Bad}
 use Rattle.requests.specs.Request.{inRange}
-use Rattle.requests.specs.Reading.{outcomeReply, outcomeValue}
+use Rattle.readings.specs.Reading.{outcomeReply, outcomeValue}
 use Rattle.exchange.specs.declared.Exchanged.{Exchanged}
 use Rattle.exchange.specs.declared.Exchanged.the-variants.{Ended, Refused as RefusedToExchange}
 

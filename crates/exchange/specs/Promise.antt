@@ -10,8 +10,8 @@ use Rattle.board.specs.declared.Place.{Place}
 use Rattle.port.specs.Packets.{unless}
 use Rattle.port.specs.Run.{stateOf}
 use Rattle.requests.specs.declared.Request.{Request}
-use Rattle.requests.specs.declared.Outcome.{Outcome}
-use Rattle.requests.specs.declared.Outcome.the-variants.{Value, Complete, BusError, Illegal}
+use Rattle.readings.specs.declared.Outcome.{Outcome}
+use Rattle.readings.specs.declared.Outcome.the-variants.{Value, Complete, BusError, Illegal}
 use Rattle.trip.specs.Meaning.{Scene}
 use Rattle.trip.specs.Exchange.{sceneOf, rested, restNops, restBudget, outcomeThere, stateThere, packetsThere}
 use Rattle.exchange.specs.declared.Exchanged.{Exchanged}

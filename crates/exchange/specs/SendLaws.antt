@@ -17,11 +17,11 @@ use Rattle.port.specs.RunLaws.{stepped-by}
 use Rattle.port.specs.Sound.{Sound}
 use Rattle.port.specs.SoundLaws.{sound-is-in-range}
 use Rattle.requests.specs.declared.Request.{Request}
-use Rattle.requests.specs.declared.Built.{Built}
+use Rattle.building.specs.declared.Built.{Built}
 use Rattle.requests.specs.Request.{inRange}
-use Rattle.requests.specs.Words.{builtWords}
-use Rattle.requests.specs.CountLaws.{word-count-bound}
-use Rattle.requests.specs.Building.{BuildingMeets}
+use Rattle.building.specs.RequestWords.{builtWords}
+use Rattle.pod_laws.specs.RequestCountLaws.{word-count-bound}
+use Rattle.building.specs.Building.{BuildingMeets}
 
 pub record Sending (b : Board) (p : Place) (m : List ℕ) (word : ℕ) (r : Answer) (after : List ℕ) : Type 0 where
   pub unrefused : said (r .outcome) .refusal .number ≡ 0

@@ -15,7 +15,7 @@ use Rattle.board.specs.declared.Phase.the-variants.{Rest, Due, Waiting, Low}
 use Rattle.board.specs.Ranges.{phaseInRange, bstatInRange, inRange}
 use Rattle.port.specs.Run.{stateOf}
 use Rattle.port.specs.Sound.{DebugWithin, OperandsWithin, PhaseWithin, Sound}
-use Rattle.requests.specs.WordLaws.{and-left, and-right}
+use Rattle.laws.specs.Tests.{both-hold}
 
 -- operand words of 16 bits, addresses and data of 32
 abbrev pub PhaseTyped : Phase → Type 0
@@ -33,10 +33,10 @@ pub record Typed (b : Board) (p : Place) (m : List ℕ) : Type 0 where
 
 phase-fits : (w : ℕ) (phase : Phase) → phaseInRange w phase ≡ true → PhaseTyped phase → PhaseWithin w phase
 phase-fits w Rest h t = tt
-phase-fits w (Due c left o) h t = (leb-true 1 left (and-left (leb 1 left) (leb left (operandWords c)) h), leb-true left (operandWords c) (and-right (leb 1 left) (leb left (operandWords c)) h), t)
+phase-fits w (Due c left o) h t = (leb-true 1 left (both-hold (leb 1 left) (leb left (operandWords c)) h .0), leb-true left (operandWords c) (both-hold (leb 1 left) (leb left (operandWords c)) h .1), t)
 phase-fits w (Waiting c left a v) h t =
-    let lefts = and-left (leb 1 left && leb left w) (waits c) h in
-    (leb-true 1 left (and-left (leb 1 left) (leb left w) lefts), leb-true left w (and-right (leb 1 left) (leb left w) lefts), and-right (leb 1 left && leb left w) (waits c) h, t .0, t .1)
+    let lefts = both-hold (leb 1 left && leb left w) (waits c) h .0 in
+    (leb-true 1 left (both-hold (leb 1 left) (leb left w) lefts .0), leb-true left w (both-hold (leb 1 left) (leb left w) lefts .1), both-hold (leb 1 left && leb left w) (waits c) h .1, t .0, t .1)
 phase-fits w (Low low) h t = t
 
 -- with the ranges of 12 and of 3, all that a packet needs
@@ -48,23 +48,23 @@ typed-is-sound {b} {p} {m} t h limit =
     let next : Bool = leb (p .next) 0x1FFFF in
     let bstat : Bool = bstatInRange (b .status .bstat) in
     let pointer : Bool = leb (p .pointer) 65536 in
-    let four = and-left (setting && phase && next && bstat) pointer h in
-    let three = and-left (setting && phase && next) bstat four in
-    let two = and-left (setting && phase) next three in
+    let four = both-hold (setting && phase && next && bstat) pointer h .0 in
+    let three = both-hold (setting && phase && next) bstat four .0 in
+    let two = both-hold (setting && phase) next three .0 in
     record {
       board =
           record {
-            setting = leb-true (b .w) 15 (and-left setting phase two);
-            bstat = and-right (setting && phase && next) bstat four;
+            setting = leb-true (b .w) 15 (both-hold setting phase two .0);
+            bstat = both-hold (setting && phase && next) bstat four .1;
             general = t .general;
             control = t .control;
             debug = t .debug;
           };
       place =
           record {
-            phase = phase-fits (b .w) (p .phase) (and-right setting phase two) (t .phase);
-            next = leb-true (p .next) 0x1FFFF (and-right (setting && phase) next three);
-            pointer = leb-true (p .pointer) 65536 (and-right (setting && phase && next && bstat) pointer h);
+            phase = phase-fits (b .w) (p .phase) (both-hold setting phase two .1) (t .phase);
+            next = leb-true (p .next) 0x1FFFF (both-hold (setting && phase) next three .1);
+            pointer = leb-true (p .pointer) 65536 (both-hold (setting && phase && next && bstat) pointer h .1);
           };
       memory = record { limit = limit; bytes = t .bytes };
     }

@@ -15,9 +15,11 @@ use Rattle.plan.specs.Plan.{workAfter, collected, begun, continued}
 use Rattle.step.specs.Step.{planFor, replyNow, stepped}
 use Rattle.port.specs.Packet.{packetVerdict}
 use Rattle.trigger.specs.declared.Event.{Event}
-use Rattle.trigger.specs.Masks.{agree}
+use Rattle.comparators.specs.Masks.{agree}
+use Rattle.comparators.specs.Comparators.{dataEnabled}
+use Rattle.groups.specs.Groups.{pcGroup, addressMatches, attributeAgrees, addressGroup, joined}
 use Rattle.trigger.specs.Levels.{levelOf}
-use Rattle.trigger.specs.Groups.{pcGroup, addressMatches, attributeAgrees, dataEnabled, addressGroup, joined, fires, firedLevel}
+use Rattle.trigger.specs.Fired.{fires, firedLevel}
 use Rattle.bus.specs.Firing.{bstatAfter, responds, firing, seen, statusAfter}
 use Rattle.bus.specs.EventAnswers.{EventTold, toldEvent}
 use Rattle.bus.specs.Events.{eventVerdict, eventOutcome}

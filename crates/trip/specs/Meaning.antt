@@ -14,8 +14,8 @@ use Rattle.registers.specs.Registers.{controlPlace, controlListed, withStatus, 
 use Rattle.work.specs.Access.{past}
 use Rattle.requests.specs.declared.Request.{Request}
 use Rattle.requests.specs.declared.Request.the-variants.{Rdreg, Wdreg, Read, Write, Dump, Fill, Go, Nop, SyncPc, Rcreg, Wcreg, Rdmreg, Wdmreg}
-use Rattle.requests.specs.declared.Outcome.{Outcome}
-use Rattle.requests.specs.declared.Outcome.the-variants.{Value, Complete, BusError}
+use Rattle.readings.specs.declared.Outcome.{Outcome}
+use Rattle.readings.specs.declared.Outcome.the-variants.{Value, Complete, BusError}
 
 -- all that a request finds and leaves
 pub record Scene : Type 0 where

@@ -13,7 +13,7 @@ use Rattle.plan.specs.Plan.{workAfter, collected, begun, continued}
 use Rattle.port.specs.Packets.{planFor, replyNow, placeNext, boardNext, memoryNext}
 use Rattle.port.specs.Run.{stateOf, stepped, ran}
 use Rattle.requests.specs.declared.Request.the-variants.{Read, Write, Dump, Fill, Rcreg, Rdmreg}
-use Rattle.requests.specs.declared.Outcome.the-variants.{Value, BusError, Illegal}
+use Rattle.readings.specs.declared.Outcome.the-variants.{Value, BusError, Illegal}
 use Rattle.trip.specs.Meaning.{Scene, meaning}
 use Rattle.trip.specs.Exchange.{restNops, restBudget, outcomeThere, packetsThere}
 
