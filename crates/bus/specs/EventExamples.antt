@@ -137,11 +137,13 @@ self n = eq-eqb n n refl
 
 module _ (w pbr ablr lanes : ℕ) (allowed : leb w 15 ≡ true) (even : eqb (pbr % 2) 0 ≡ true) where
   p5-one : after (p5Set 1 w pbr ablr) (p5Event pbr ablr lanes) ≡ p5Set 5 w pbr ablr
-  unfolding freshPlace inRange bstatInRange agree levelOf pcGroup addressMatches attributeAgrees dataEnabled addressGroup joined fires firedLevel bstatAfter responds firing statusAfter eventVerdict
+  unfolding freshPlace inRange bstatInRange agree levelOf pcGroup addressMatches attributeAgrees dataEnabled addressGroup joined fires firedLevel bstatAfter
+      responds firing statusAfter eventVerdict
   p5-one = rw (allowed, even, self (bitOr pbr 0))
 
   p5-two : after (p5Set 5 w pbr ablr) (p5Event pbr ablr lanes) .status .bstat ≡ 6
-  unfolding freshPlace inRange bstatInRange agree levelOf pcGroup addressMatches attributeAgrees dataEnabled addressGroup joined fires firedLevel bstatAfter responds firing statusAfter eventVerdict
+  unfolding freshPlace inRange bstatInRange agree levelOf pcGroup addressMatches attributeAgrees dataEnabled addressGroup joined fires firedLevel bstatAfter
+      responds firing statusAfter eventVerdict
   p5-two = rw (allowed, even, self ablr)
 
 -- "twice it gives BSTAT 5, then 6"

@@ -57,7 +57,8 @@ in-range-with b p s within kept =
     let board = both-hold (leb (b .w) 15) (bstatInRange (b .status .bstat)) (parts .0) in
     rw (board .0, kept (board .1)) (parts .1)
 
-in-range-by : (v : Verdict) (b : Board) (p : Place) (s : Status) → inRange b p ≡ true → (bstatInRange (b .status .bstat) ≡ true → bstatInRange (s .bstat) ≡ true)
+in-range-by : (v : Verdict) (b : Board) (p : Place) (s : Status) → inRange b p ≡ true
+    → (bstatInRange (b .status .bstat) ≡ true → bstatInRange (s .bstat) ≡ true)
     → inRange (ifAccepted v (withStatus b s) b) p ≡ true
 in-range-by Accepted b p s within kept = in-range-with b p s within kept
 in-range-by (Refused g) b p s within kept = within

@@ -1,7 +1,8 @@
 // What a packet's input is taken for: a command word, an operand, or nothing (01, "Packets").
 ghost use mathlib.Core.Path.{_≡_};
 ghost use Prim.Native.Nat.{_-_};
-ghost use Rattle.plan.specs.Plan.{isDumping, isFilling, follows, legalCommand, long, withOperand, addressIn, valueIn, workAfter, waitsOf, collected, begun, continued, planOf};
+ghost use Rattle.plan.specs.Plan.{isDumping, isFilling, follows, legalCommand, long, withOperand, addressIn, valueIn};
+ghost use Rattle.plan.specs.Plan.{workAfter, waitsOf, collected, begun, continued, planOf};
 use board::Chain;
 use board::Operands;
 use board::Phase;

@@ -24,7 +24,8 @@ use Rattle.bus.specs.Firing.{bstatAfter, responds, firing, seen, statusAfter}
 use Rattle.bus.specs.EventAnswers.{EventTold, toldEvent}
 use Rattle.bus.specs.Events.{eventVerdict, eventOutcome}
 use Rattle.bus.specs.EventExamples.{Setting, fired, p4Settings, p4Outside, p4Inside, p4Csr, p5Settings, p5Event}
-use Rattle.run.specs.PacketExamples.{sixteen, p1Words, p1Replies, p2Words, p2Replies, p3Words, p3Replies, p6Words, p6Replies, p7Words, p7Replies, p8Words, p8Replies}
+use Rattle.run.specs.PacketExamples.{sixteen, p1Words, p1Replies, p2Words, p2Replies, p3Words, p3Replies, p6Words, p6Replies, p7Words, p7Replies, p8Words}
+use Rattle.run.specs.PacketExamples.{p8Replies}
 use Rattle.trace.specs.Cycle.{givesOwn, after as afterCycle, carriedInto, value}
 use Rattle.trace.specs.Items.{itemsAt, itemsBefore, items, words}
 use Rattle.trace.specs.Examples.{p9, p9Words}
@@ -89,7 +90,10 @@ pub record ByEye : Type 0 where
   pub p9-items : words (items p9) ≡ p9Words
 
 pub by-eye : ByEye
-unfolding freshBoard freshPlace inRange bstatInRange fetched stored decoded decodedWord csrValue bstatRead debugLoaded debugWritten controlIndex controlFetched controlWritten workAfter collected begun continued planFor replyNow stepped packetVerdict agree levelOf pcGroup addressMatches attributeAgrees dataEnabled addressGroup joined fires firedLevel bstatAfter responds firing seen statusAfter eventVerdict givesOwn afterCycle carriedInto value itemsAt itemsBefore items handed after finds
+unfolding freshBoard freshPlace inRange bstatInRange fetched stored decoded decodedWord csrValue bstatRead debugLoaded debugWritten controlIndex controlFetched
+    controlWritten workAfter collected begun continued planFor replyNow stepped packetVerdict agree levelOf pcGroup addressMatches attributeAgrees
+    dataEnabled addressGroup joined fires firedLevel bstatAfter responds firing seen statusAfter eventVerdict givesOwn afterCycle carriedInto value
+    itemsAt itemsBefore items handed after finds
 by-eye = record {
   p1 = refl;
   p2 = refl;

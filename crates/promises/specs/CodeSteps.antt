@@ -38,7 +38,8 @@ pub record CodeSteps : Type 0 where
   pub inputs : (s : State) (r : BreakpointAnswer) → BreakpointMeets (s .board) (s .place) r
       → stateOf (r .board) (s .place) (s .memory) ≡ afterCall standIn s breakpoint
   -- Refused calls change nothing: packets,
-  pub stillPacket : (s : State) (m : Lent) (word : ℕ) (g : Ground) → packetVerdict (lending s m) word ≡ Refused g → afterCall standIn s (packet m word) ≡ lending s m
+  pub stillPacket : (s : State) (m : Lent) (word : ℕ) (g : Ground) → packetVerdict (lending s m) word ≡ Refused g → afterCall standIn s (packet m word)
+      ≡ lending s m
   -- events
   pub stillEvent : (s : State) (e : Event) (g : Ground) → eventVerdict (s .board) (s .place) e ≡ Refused g → afterCall standIn s (event e) ≡ s
   -- and breakpoint inputs.

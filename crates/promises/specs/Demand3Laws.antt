@@ -36,7 +36,8 @@ module _ (w : ℕ) (small : w ≤ 15) (history : List Call) where
       let t : Trail = trailOf standIn w history in
       let nops : AllNops w (finds standIn s idle) × (length (finds standIn s idle) ≡ length ms) = idle-found w s ms idle i reached in
       let brought : PlaceRests standIn w t (finds standIn s idle) =
-      place-rests-from w t (finds standIn s idle) (nops .0) (kept-from-fresh w (finds standIn (made w) history) found) (subst (SoundPlace w) here (reached .place)) in
+      place-rests-from w t (finds standIn s idle) (nops .0) (kept-from-fresh w (finds standIn (made w) history) found)
+      (subst (SoundPlace w) here (reached .place)) in
       record {
         accepted = nops .1;
         enough = λ l. ap (λ (p : Place). atRest (p .phase)) (place-of-trail s t idle here) ∙ brought .enough (omega (arith, nops .1));

@@ -128,7 +128,8 @@ unfolding after finds trail
 place-of-trail s t [] e = e
 place-of-trail s t (packet m word ∷ cs) e =
     along (packetVerdict (lending s m) word) (lending s m) (stepped (lending s m) word) t (finding s m word) cs
-    (place-of-trail (stepped (lending s m) word) (noted standIn t (finding s m word)) cs (ap (λ (p : Place). stepped (stateOf (s .board) p (m .bytes)) word .place) e))
+    (place-of-trail (stepped (lending s m) word) (noted standIn t (finding s m word)) cs
+    (ap (λ (p : Place). stepped (stateOf (s .board) p (m .bytes)) word .place) e))
     (place-of-trail (lending s m) t cs e)
 place-of-trail s t (event e ∷ cs) q = place-of-trail (afterCall standIn s (event e)) t cs q
 place-of-trail s t (breakpoint ∷ cs) q = place-of-trail (afterCall standIn s breakpoint) t cs q

@@ -57,7 +57,8 @@ module _ (w : ℕ) where
     nop-after cs = rw accepted
 
   -- the packets of the idle calls are NOPs, all accepted
-  pub idle-found : (s : State) (ms : List Lent) (idle : List Call) → Idle ms idle → Fits w s → AllNops w (finds standIn s idle) × (length (finds standIn s idle) ≡ length ms)
+  pub idle-found : (s : State) (ms : List Lent) (idle : List Call) → Idle ms idle → Fits w s → AllNops w (finds standIn s idle)
+      × (length (finds standIn s idle) ≡ length ms)
   unfolding finds
   idle-found s ms idle none h = (done, refl)
   idle-found s ms idle (nop {ms = ns} {cs = cs} m limit i) h =
@@ -99,18 +100,21 @@ module _ (w : ℕ) where
       }
   still-alike s r ms idle (withEvent {cs = cs} e i) hs hr alike =
       let changed : SameButStatus (boardAfterEvent (s .board) (s .place) e) (r .board) =
-      rw (event-changes-status-alone (s .board) (s .place) e) (same-with-status (s .board) (r .board) (boardAfterEvent (s .board) (s .place) e .status) (alike .board)) in
+      rw (event-changes-status-alone (s .board) (s .place) e)
+      (same-with-status (s .board) (r .board) (boardAfterEvent (s .board) (s .place) e .status) (alike .board)) in
       let next : StillAlike (afterCall standIn s (event e)) r ms cs =
       still-alike (afterCall standIn s (event e)) r ms cs i (call-fits w s hs (event e)) hr (record { place = alike .place; board = changed }) in
       record { number = next .number; ends = next .ends; hands = next .hands }
   still-alike s r ms idle (withBreakpoint {cs = cs} i) hs hr alike =
       let changed : SameButStatus (boardAfterBreakpoint (s .board) (s .place)) (r .board) =
-      rw (breakpoint-changes-status-alone (s .board) (s .place)) (same-with-status (s .board) (r .board) (boardAfterBreakpoint (s .board) (s .place) .status) (alike .board)) in
+      rw (breakpoint-changes-status-alone (s .board) (s .place))
+      (same-with-status (s .board) (r .board) (boardAfterBreakpoint (s .board) (s .place) .status) (alike .board)) in
       let next : StillAlike (afterCall standIn s breakpoint) r ms cs =
       still-alike (afterCall standIn s breakpoint) r ms cs i (call-fits w s hs breakpoint) hr (record { place = alike .place; board = changed }) in
       record { number = next .number; ends = next .ends; hands = next .hands }
 
   pub idle-unmoved : (s : State) (ms : List Lent) (idle : List Call) → Idle ms idle → Fits w s → Unmoved standIn s ms idle
   idle-unmoved s ms idle i h =
-      let all : StillAlike s s ms idle = still-alike s s ms idle i h h (record { place = refl; board = record { setting = refl; registers = refl; debug = refl } }) in
+      let all : StillAlike s s ms idle =
+      still-alike s s ms idle i h h (record { place = refl; board = record { setting = refl; registers = refl; debug = refl } }) in
       record { number = all .number; place = all .ends .place; board = all .ends .board; handed = all .hands }

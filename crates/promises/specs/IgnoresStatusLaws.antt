@@ -34,14 +34,16 @@ PlanIgnoresStatus (Work c address value) = IgnoresStatus c
 
 work-after-ignores-status : (left : ℕ) (c : Command) (address value : ℕ) → IgnoresStatus c → PlanIgnoresStatus (workAfter left c address value)
 unfolding workAfter
-work-after-ignores-status left c address value h = either PlanIgnoresStatus (eqb left 0) (Work c address value) (Hold (Waiting c left address value)) (λ e. h) (λ e. tt)
+work-after-ignores-status left c address value h =
+    either PlanIgnoresStatus (eqb left 0) (Work c address value) (Hold (Waiting c left address value)) (λ e. h) (λ e. tt)
 
 continued-ignores-status : (c : Command) (left : ℕ) (t : Operands) (w word : ℕ) → IgnoresStatus c → PlanIgnoresStatus (continued c left t w word)
 unfolding continued collected
 continued-ignores-status c left t w word h =
     either PlanIgnoresStatus (carriesC word) Reject (collected w (left - 1) c (withOperand t word)) (λ e. tt)
     (λ e. either PlanIgnoresStatus (eqb (left - 1) 0)
-    (workAfter (waitsOf w c) c (addressIn (operandWords c) (withOperand t word)) (valueIn (operandWords c) (withOperand t word))) (Hold (Due c (left - 1) (withOperand t word)))
+    (workAfter (waitsOf w c) c (addressIn (operandWords c) (withOperand t word)) (valueIn (operandWords c) (withOperand t word)))
+    (Hold (Due c (left - 1) (withOperand t word)))
     (λ z. work-after-ignores-status (waitsOf w c) c (addressIn (operandWords c) (withOperand t word)) (valueIn (operandWords c) (withOperand t word)) h)
     (λ z. tt))
 

@@ -102,7 +102,8 @@ module _ (w : ℕ) (f : Found) (p : Place) (setting : f .board .w ≡ w) where
   unfolding begun stage
   tells-begun os =
       let c = decoded (f .word) in
-      either (PlanTells w (foundAt f p) c (begins f p) os as-begun) (legalWord (f .word) (standingOf (f .board) p)) (collected w (operandWords c) c noOperands) Reject
+      either (PlanTells w (foundAt f p) c (begins f p) os as-begun) (legalWord (f .word) (standingOf (f .board) p))
+      (collected w (operandWords c) c noOperands) Reject
       (λ judged.
       tells-collected w (foundAt f p) c (begins f p) os as-begun (operandWords c) noOperands
       (record { same = refl; judged = judged; clear = refl; kept = refl; count = omega arith; unshown = refl; setting = setting }) refl)

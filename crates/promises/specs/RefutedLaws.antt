@@ -48,12 +48,14 @@ nops-fit (suc n) = AllNops.nop (freshBoard 2) [] (fresh-fits 2 (omega arith) .bo
 pub always-at-rest : (k : Machine) → ((s : State) (word : ℕ) → k .step s word .place .phase ≡ Rest) → PlaceDemand3 k → ⊥
 unfolding freshBoard freshPlace trail stage decoded decodedWord
 always-at-rest k rests d =
-    true≢false (sym (ap atRest (rests (stateOf (freshBoard 2) freshPlace []) 0x1980)) ∙ d .closing 2 (onFresh 0x1980 ∷ []) (one-fits 0x1980 (omega arith)) .rests)
+    true≢false
+    (sym (ap atRest (rests (stateOf (freshBoard 2) freshPlace []) 0x1980)) ∙ d .closing 2 (onFresh 0x1980 ∷ []) (one-fits 0x1980 (omega arith)) .rests)
 
 -- A port that is never at rest again: it replies 0x10000 for ever, or anything else.
 pub never-at-rest : (k : Machine) → ((s : State) (word : ℕ) → atRest (k .step s word .place .phase) ≡ false) → PlaceDemand3 k → ⊥
 unfolding trail
-never-at-rest k moves d = true≢false (sym (d .rest 2 [] (replicate 6 (onFresh 0)) AllFit.none (nops-fit 6) .enough (omega arith)) ∙ moves (stateOf (freshBoard 2) _ []) 0)
+never-at-rest k moves d =
+    true≢false (sym (d .rest 2 [] (replicate 6 (onFresh 0)) AllFit.none (nops-fit 6) .enough (omega arith)) ∙ moves (stateOf (freshBoard 2) _ []) 0)
 
 -- An event that moves the phase, or anything else of the place that a history leads to.
 pub event-moves-the-place : (k : Machine) (w : ℕ) → w ≤ 15 → (history : List Call) (e : Event)
@@ -98,7 +100,8 @@ operand-early d = true≢false (d .closing 2 (omega arith) (history (0x2C80 ∷ 
 
 -- a byte READ with one packet of two waited
 pub wait-early : Demand3 (early hastyWait) → ⊥
-unfolding freshBoard freshPlace inRange bstatInRange fetched decoded decodedWord workAfter collected begun continued planFor stepped packetVerdict trail stage finds
+unfolding freshBoard freshPlace inRange bstatInRange fetched decoded decodedWord workAfter collected begun continued planFor stepped packetVerdict trail stage
+    finds
 wait-early d = true≢false (d .closing 2 (omega arith) (history (0x1900 ∷ 0 ∷ 0 ∷ 0 ∷ [])) .closes .rests)
 
 -- a closing reply that is whatever is held: the next reply never changes
@@ -138,4 +141,5 @@ resting = record {
 
 pub event-moves-the-phase : (e : Event) → Demand3 resting → ⊥
 unfolding freshBoard freshPlace inRange bstatInRange decoded decodedWord workAfter collected begun continued planFor stepped packetVerdict after
-event-moves-the-phase e = event-moves-the-place resting 2 (omega arith) (history (0x2C80 ∷ [])) e (λ same. true≢false (ap (λ (p : Place). atRest (p .phase)) same))
+event-moves-the-phase e =
+    event-moves-the-place resting 2 (omega arith) (history (0x2C80 ∷ [])) e (λ same. true≢false (ap (λ (p : Place). atRest (p .phase)) same))

@@ -26,7 +26,8 @@ abbrev besides : State → Status → State
 besides x s = stateOf (withStatus (x .board) s) (x .place) (x .memory)
 
 module _ (x : State) (s : Status) where
-  same-place-worked : (c : Command) (address value : ℕ) → IgnoresStatus c → left (Work c address value) (besides x s) .place ≡ left (Work c address value) x .place
+  same-place-worked : (c : Command) (address value : ℕ) → IgnoresStatus c → left (Work c address value) (besides x s) .place
+      ≡ left (Work c address value) x .place
   unfolding controlFetched
   same-place-worked Unknown address value h = refl
   same-place-worked Nop address value h = refl

@@ -34,7 +34,8 @@ module _ (w : ℕ) (c : Command) (o : Word) where
   pub stage-due : (left : ℕ) (t : Operands) → Open w c left t o → 1 ≤ left → stage o ≡ operandDue
   unfolding stage
   stage-due left t h l =
-      let short : eqb (length (o .operands)) (operandWords (decoded (o .packet))) ≡ false = rw (h .same) (ne-eqb (length (o .operands)) (operandWords c) (omega (arith, h .count))) in
+      let short : eqb (length (o .operands)) (operandWords (decoded (o .packet))) ≡ false =
+      rw (h .same) (ne-eqb (length (o .operands)) (operandWords c) (omega (arith, h .count))) in
       rw (h .judged, h .clear, short)
 
   module _ (t : Operands) (h : Open w c 0 t o) where
@@ -47,7 +48,8 @@ module _ (w : ℕ) (c : Command) (o : Word) where
     pub stage-waiting : (left : ℕ) → o .waited + left ≡ waitsOf w c → 1 ≤ left → stage o ≡ waitDue
     unfolding stage
     stage-waiting left e l =
-        let short : eqb (o .waited) (waitsOf (o .board .w) (decoded (o .packet))) ≡ false = rw (h .same, h .setting) (ne-eqb (o .waited) (waitsOf w c) (omega arith)) in
+        let short : eqb (o .waited) (waitsOf (o .board .w) (decoded (o .packet))) ≡ false =
+        rw (h .same, h .setting) (ne-eqb (o .waited) (waitsOf w c) (omega arith)) in
         rw (h .judged, h .clear, there, short)
 
     -- the waits are over: what the work finds decides

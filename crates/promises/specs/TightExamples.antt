@@ -33,9 +33,11 @@ pub record Tight (w : ℕ) : Type 0 where
   pub number : underWay standIn (asked w .place) (finds standIn (asked w) (nops (replicate (5 + w) noMemory))) ≡ 4 + w
 
 pub tight-at-0 : Tight 0
-unfolding freshBoard freshPlace inRange bstatInRange decoded decodedWord controlIndex controlFetched controlWritten workAfter collected begun continued planFor stepped packetVerdict underWay after finds
+unfolding freshBoard freshPlace inRange bstatInRange decoded decodedWord controlIndex controlFetched controlWritten workAfter collected begun continued planFor
+    stepped packetVerdict underWay after finds
 tight-at-0 = record { fewer = refl; enough = refl; number = refl }
 
 pub tight-at-15 : Tight 15
-unfolding freshBoard freshPlace inRange bstatInRange decoded decodedWord controlIndex controlFetched controlWritten workAfter collected begun continued planFor stepped packetVerdict underWay after finds
+unfolding freshBoard freshPlace inRange bstatInRange decoded decodedWord controlIndex controlFetched controlWritten workAfter collected begun continued planFor
+    stepped packetVerdict underWay after finds
 tight-at-15 = record { fewer = refl; enough = refl; number = refl }

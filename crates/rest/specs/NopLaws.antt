@@ -15,13 +15,15 @@ use Rattle.rest.specs.ToGoLaws.{uppers, toGo, PlanLeaves, leaves-more, p
 nop-leaves : (w : ℕ) (phase : Phase) (s : Standing) → PhaseWithin w phase → PlanLeaves w (toGo w phase - 1) (planOf phase s w 0)
 nop-leaves w Rest s h = rw (nop-plan s w) zero-le
 nop-leaves w (Due c left t) s h =
-    leaves-more w (left - 1 + waitsOf w c + uppers c) (left + waitsOf w c + uppers c - 1) (continued c left t w 0) (omega (arith, h .0)) (continued-leaves c left t w 0)
+    leaves-more w (left - 1 + waitsOf w c + uppers c) (left + waitsOf w c + uppers c - 1) (continued c left t w 0) (omega (arith, h .0))
+    (continued-leaves c left t w 0)
 nop-leaves w (Waiting c left address value) s h =
     leaves-more w (left - 1 + uppers c) (left + uppers c - 1) (workAfter (left - 1) c address value) (omega (arith, h .0))
     (work-after-leaves w (left - 1) c address value)
 nop-leaves w (Low low) s h = tt
 
-pub nop-takes-one-off : (w : ℕ) (s : State) → s .board .w ≡ w → PhaseWithin w (s .place .phase) → toGo w (stepped s 0 .place .phase) ≤ toGo w (s .place .phase) - 1
+pub nop-takes-one-off : (w : ℕ) (s : State) → s .board .w ≡ w → PhaseWithin w (s .place .phase)
+    → toGo w (stepped s 0 .place .phase) ≤ toGo w (s .place .phase) - 1
 unfolding stepped planFor
 nop-takes-one-off w s e h =
     place-leaves w (toGo w (s .place .phase) - 1) (planOf (s .place .phase) (standingOf (s .board) (s .place)) (s .board .w) 0) s

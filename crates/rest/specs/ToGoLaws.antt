@@ -126,8 +126,10 @@ work-after-leaves w left c address value =
 collected-leaves : (w left : ℕ) (c : Command) (t : Operands) → PlanLeaves w (left + waitsOf w c + uppers c) (collected w left c t)
 unfolding collected
 collected-leaves w left c t =
-    either (PlanLeaves w (left + waitsOf w c + uppers c)) (eqb left 0) (workAfter (waitsOf w c) c (addressIn (operandWords c) t) (valueIn (operandWords c) t)) (Hold (Due c left t))
-    (λ e. leaves-more w (waitsOf w c + uppers c) (left + waitsOf w c + uppers c) (workAfter (waitsOf w c) c (addressIn (operandWords c) t) (valueIn (operandWords c) t)) (omega arith)
+    either (PlanLeaves w (left + waitsOf w c + uppers c)) (eqb left 0) (workAfter (waitsOf w c) c (addressIn (operandWords c) t) (valueIn (operandWords c) t))
+    (Hold (Due c left t))
+    (λ e. leaves-more w (waitsOf w c + uppers c) (left + waitsOf w c + uppers c)
+    (workAfter (waitsOf w c) c (addressIn (operandWords c) t) (valueIn (operandWords c) t)) (omega arith)
     (work-after-leaves w (waitsOf w c) c (addressIn (operandWords c) t) (valueIn (operandWords c) t)))
     (λ e. le-refl _)
 

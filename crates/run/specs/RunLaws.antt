@@ -110,7 +110,13 @@ written-from (word ∷ words) i s out h =
     let room : i < length out = omega arith in
     let beyond : suc i + length words ≡ i + suc (length words) = omega arith in
     written-from words (i + 1) (stepped s word) (set out i (replyNow (s .place))) (simp length-set (omega arith))
-    ∙ rw (add-one i, take-suc-set out i (replyNow (s .place)) room, drop-set-lt (suc i + length words) out i (replyNow (s .place)) (omega arith), append-assoc, beyond)
+    ∙ rw (
+      add-one i,
+      take-suc-set out i (replyNow (s .place)) room,
+      drop-set-lt (suc i + length words) out i (replyNow (s .place)) (omega arith),
+      append-assoc,
+      beyond,
+    )
 
 pub written-whole : (words : List ℕ) (s : State) (out : List ℕ) → length words ≤ length out → written words 0 s out ≡ replies words s ++ drop (length words) out
 written-whole words s out h = let all : 0 + length words ≡ length words = omega arith in rw all at (written-from words 0 s out (omega arith))

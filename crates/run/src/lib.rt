@@ -110,7 +110,8 @@ fn take_words(
     replies: &mut [u32],
 ) -> Next
     requires { ⌜ length (now words) ≤ length (now replies) ⌝ }
-    ensures { λ r. ⌜ (stateOf (r .board) (r .place) (now (memory .exit)) ≡ ran (now (words .entry)) (stateOf board place (now (memory .entry)))) × (now (replies .exit) ≡ written (now (words .entry)) 0 (stateOf board place (now (memory .entry))) (now (replies .entry))) ⌝ }
+    ensures { λ r. ⌜ (stateOf (r .board) (r .place) (now (memory .exit)) ≡ ran (now (words .entry)) (stateOf board place (now (memory .entry))))
+        × (now (replies .exit) ≡ written (now (words .entry)) 0 (stateOf board place (now (memory .entry))) (now (replies .entry))) ⌝ }
 {
     let mut b = board;
     let mut p = place;
@@ -147,7 +148,8 @@ pub fn take_packets(
     words: &[u32],
     replies: &mut [u32],
 ) -> Ran
-    ensures { λ r. ⌜ RunMeets (stateOf board place (now (memory .entry))) (now (words .entry)) (now (replies .entry)) r (now (memory .exit)) (now (replies .exit)) ⌝ }
+    ensures { λ r. ⌜ RunMeets (stateOf board place (now (memory .entry))) (now (words .entry)) (now (replies .entry)) r
+        (now (memory .exit)) (now (replies .exit)) ⌝ }
 {
     let verdict = judge_run(board, place, memory, words, replies.len());
     match verdict {

@@ -180,7 +180,15 @@ phase-in-range w (Low low) h = refl
 pub sound-is-in-range : (w : ℕ) (b : Board) (p : Place) → SoundBoard w b → SoundPlace w p → inRange b p ≡ true
 unfolding inRange
 sound-is-in-range w b p h k =
-    rw (h .setting, le-leb w 15 (h .small), h .bstat, phase-in-range w (p .phase) (k .phase), le-leb (p .next) 0x1FFFF (k .next), le-leb (p .pointer) 65536 (k .pointer))
+    rw (
+      h .setting,
+      le-leb w 15 (h .small),
+      h .bstat,
+      phase-in-range w (p .phase) (k .phase),
+      le-leb (p .next) 0x1FFFF (k .next),
+      le-leb (p .pointer) 65536
+          (k .pointer),
+    )
 
 -- ---- a fresh board
 zeros-below : (n k : ℕ) → 1 ≤ k → AllBelow k (replicate n 0)

@@ -34,11 +34,13 @@ address-within : (n : ℕ) (t : Operands) → OperandsWithin t → addressIn n t
 address-within n t h =
     either (λ x. x < 2 ^ 32) (eqb n 4) (long (t .oldest) (t .older)) (cond (eqb n 3) (long (t .older) (t .newer)) (long (t .newer) (t .newest)))
     (λ e. omega (arith, h .oldest, h .older))
-    (λ e. either (λ x. x < 2 ^ 32) (eqb n 3) (long (t .older) (t .newer)) (long (t .newer) (t .newest)) (λ f. omega (arith, h .older, h .newer)) (λ f. omega (arith, h .newer, h .newest)))
+    (λ e. either (λ x. x < 2 ^ 32) (eqb n 3) (long (t .older) (t .newer)) (long (t .newer) (t .newest)) (λ f. omega (arith, h .older, h .newer))
+    (λ f. omega (arith, h .newer, h .newest)))
 
 value-in-within : (n : ℕ) (t : Operands) → OperandsWithin t → valueIn n t < 2 ^ 32
 value-in-within n t h =
-    either (λ x. x < 2 ^ 32) (eqb n 1 || eqb n 3) (t .newest) (long (t .newer) (t .newest)) (λ e. omega (arith, h .newest)) (λ e. omega (arith, h .newer, h .newest))
+    either (λ x. x < 2 ^ 32) (eqb n 1 || eqb n 3) (t .newest) (long (t .newer) (t .newest)) (λ e. omega (arith, h .newest))
+    (λ e. omega (arith, h .newer, h .newest))
 
 not-zero : (x : ℕ) → eqb x 0 ≡ false → 1 ≤ x
 not-zero x t = let h : x ≡ 0 → ⊥ = eqb-false x 0 t in omega arith
@@ -56,7 +58,8 @@ collected-within : (w left : ℕ) (c : Command) (t : Operands) → left ≤ oper
 unfolding collected
 collected-within w left c t h o =
     either (PlanWithin w) (eqb left 0) (workAfter (waitsOf w c) c (addressIn (operandWords c) t) (valueIn (operandWords c) t)) (Hold (Due c left t))
-    (λ e. work-after-within w (waitsOf w c) c (addressIn (operandWords c) t) (valueIn (operandWords c) t) (omega arith) (address-within (operandWords c) t o) (value-in-within (operandWords c) t o))
+    (λ e. work-after-within w (waitsOf w c) c (addressIn (operandWords c) t) (valueIn (operandWords c) t) (omega arith) (address-within (operandWords c) t o)
+    (value-in-within (operandWords c) t o))
     (λ e. (not-zero left e, h, o))
 
 begun-within : (s : Standing) (w word : ℕ) → PlanWithin w (begun s w word)
@@ -70,7 +73,8 @@ continued-within : (c : Command) (left : ℕ) (t : Operands) (w word : ℕ) → 
 unfolding continued
 continued-within c left t w word h o =
     either (PlanWithin w) (carriesC word) Reject (collected w (left - 1) c (withOperand t word)) (λ e. tt)
-    (λ e. let small : word < 0x10000 = leb-false 0x10000 word e in collected-within w (left - 1) c (withOperand t word) (omega arith) (more-within t word o small))
+    (λ e. let small : word < 0x10000 = leb-false 0x10000 word e in
+    collected-within w (left - 1) c (withOperand t word) (omega arith) (more-within t word o small))
 
 pub plan-within : (phase : Phase) (s : Standing) (w word : ℕ) → PhaseWithin w phase → PlanWithin w (planOf phase s w word)
 plan-within Rest s w word h = begun-within s w word

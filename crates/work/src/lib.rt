@@ -76,7 +76,8 @@ pub fn make_access(
     address: u32,
     value: u32,
 ) -> Access
-    ensures { λ r. ⌜ (r ≡ accessOf command (now (memory .entry)) pointer address) × (now (memory .exit) ≡ memoryAfter command (now (memory .entry)) pointer address value) ⌝ }
+    ensures { λ r. ⌜ (r ≡ accessOf command (now (memory .entry)) pointer address)
+        × (now (memory .exit) ≡ memoryAfter command (now (memory .entry)) pointer address value) ⌝ }
 {
     match command {
         Command::Unknown => Access::NoAccess,

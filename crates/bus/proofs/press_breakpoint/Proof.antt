@@ -14,7 +14,12 @@ status-pressed-requires c κs = search needs
 
 returns : tie.Need-returns
 unfolding breakpointVerdict
-returns c = record { answer = rw (← c .before .before .before .before .before .is-in-range .ensures, c .before .before .before .before .if1 .taken, ← c .before .press .ensures); board = rw (← c .before .before .before .before .before .is-in-range .ensures, c .before .before .before .before .if1 .taken, ← c .before .press .ensures, ← c .status-pressed .ensures) }
+returns c =
+    record {
+      answer = rw (← c .before .before .before .before .before .is-in-range .ensures, c .before .before .before .before .if1 .taken, ← c .before .press .ensures);
+      board =
+          rw (← c .before .before .before .before .before .is-in-range .ensures, c .before .before .before .before .if1 .taken, ← c .before .press .ensures, ← c .status-pressed .ensures);
+    }
 
 returns-2 : tie.Need-returns-2
 unfolding breakpointVerdict

@@ -24,7 +24,12 @@ returns : tie.Need-returns
 returns c = record { answer = rw (← c .before .before .before .judge-event .ensures, c .before .verdict .given .1); board = rw (← c .before .before .before .judge-event .ensures, c .before .verdict .given .1) }
 
 returns-2 : tie.Need-returns-2
-returns-2 c = record { answer = rw (← c .before .before .before .before .before .before .before .judge-event .ensures, c .before .before .before .before .before .enum-told .given .1, ← c .before .before .fire .ensures, ← c .before .see .ensures); board = rw (← c .before .before .before .before .before .before .before .judge-event .ensures, c .before .before .before .before .before .enum-told .given .1, ← c .before .before .fire .ensures, ← c .status-after .ensures) }
+returns-2 c =
+    record {
+      answer = rw (← c .before .before .before .before .before .before .before .judge-event .ensures, c .before .before .before .before .before .enum-told .given .1, ← c .before .before .fire .ensures, ← c .before .see .ensures);
+      board =
+          rw (← c .before .before .before .before .before .before .before .judge-event .ensures, c .before .before .before .before .before .enum-told .given .1, ← c .before .before .fire .ensures, ← c .status-after .ensures);
+    }
 
 pub take-event-spec : {M : Type 1} → statement M
 take-event-spec =

@@ -45,7 +45,20 @@ returns-10 c = rw (c .match .keys10)
 
 returns-11 : tie.Need-returns-11
 unfolding controlIndex
-returns-11 c = let no = c .match .rest in simp (ne-eqb _ _ (no .0 .0 .0 .0 .0 .0 .0 .0 .0 .1), ne-eqb _ _ (no .0 .0 .0 .0 .0 .0 .0 .0 .1), ne-eqb _ _ (no .0 .0 .0 .0 .0 .0 .0 .1), ne-eqb _ _ (no .0 .0 .0 .0 .0 .0 .1), ne-eqb _ _ (no .0 .0 .0 .0 .0 .1), ne-eqb _ _ (no .0 .0 .0 .0 .1), ne-eqb _ _ (no .0 .0 .0 .1), ne-eqb _ _ (no .0 .0 .1), ne-eqb _ _ (no .0 .1), ne-eqb _ _ (no .1))
+returns-11 c = let no = c .match .rest in
+    simp (
+      ne-eqb _ _ (no .0 .0 .0 .0 .0 .0 .0 .0 .0 .1),
+      ne-eqb _ _ (no .0 .0 .0 .0 .0 .0 .0 .0 .1),
+      ne-eqb _ _ (no .0 .0 .0 .0 .0 .0 .0 .1),
+      ne-eqb _ _ (no .0 .0 .0 .0 .0 .0 .1),
+      ne-eqb _ _ (no .0 .0 .0 .0 .0 .1),
+      ne-eqb _ _ (no .0 .0 .0 .0 .1),
+      ne-eqb _ _ (no .0 .0 .0 .1),
+      ne-eqb _ _
+          (no .0 .0 .1),
+      ne-eqb _ _ (no .0 .1),
+      ne-eqb _ _ (no .1),
+    )
 
 pub index-of-spec : {M : Type 1} → statement M
 index-of-spec =

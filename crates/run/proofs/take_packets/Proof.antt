@@ -24,7 +24,8 @@ same-length-2 : tie.Need-same-length-2
 same-length-2 c = search needs
 
 returns : tie.Need-returns
-returns c = let judged = c .before .before .before .before .before .before .before .before .before .before .before .judge-run .ensures in let accepted = sym judged ∙ c .before .before .before .before .before .before .before .before .before .enum-told .given .1 in let next = c .before .before .before .before .before .before .take-words .ensures in record { answer = ap told judged; state = rw accepted (next .0); answers = rw accepted (next .1 ∙ written-whole _ _ _ (accepted-has-room _ _ _ accepted)) }
+returns c = let judged = c .before .before .before .before .before .before .before .before .before .before .before .judge-run .ensures in let accepted = sym judged ∙ c .before .before .before .before .before .before .before .before .before .enum-told .given .1 in
+    let next = c .before .before .before .before .before .before .take-words .ensures in record { answer = ap told judged; state = rw accepted (next .0); answers = rw accepted (next .1 ∙ written-whole _ _ _ (accepted-has-room _ _ _ accepted)) }
 
 same-length-3 : tie.Need-same-length-3
 same-length-3 c = search needs

@@ -24,11 +24,29 @@ is-reserved-requires c κs = search needs
 
 returns-4 : tie.Need-returns-4
 unfolding eventVerdict
-returns-4 c = rw (← c .before .before .before .before .before .before .is-in-range .ensures, not-false (c .before .before .before .before .before .before .is-in-range .result) (c .before .before .before .before .before .if1 .left), c .before .before .before .before .if2 .left, eq-eqb _ _ (c .before .before .if3 .left), ← c .before .is-reserved .ensures, c .if4 .taken)
+returns-4 c =
+    rw (
+      ← c .before .before .before .before .before .before .is-in-range .ensures,
+      not-false (c .before .before .before .before .before .before .is-in-range .result) (c .before .before .before .before .before .if1 .left),
+      c .before .before .before .before .if2 .left,
+      eq-eqb _ _
+          (c .before .before .if3 .left),
+      ← c .before .is-reserved .ensures,
+      c .if4 .taken,
+    )
 
 returns-5 : tie.Need-returns-5
 unfolding eventVerdict
-returns-5 c = rw (← c .before .before .before .before .before .before .is-in-range .ensures, not-false (c .before .before .before .before .before .before .is-in-range .result) (c .before .before .before .before .before .if1 .left), c .before .before .before .before .if2 .left, eq-eqb _ _ (c .before .before .if3 .left), ← c .before .is-reserved .ensures, c .if4 .left)
+returns-5 c =
+    rw (
+      ← c .before .before .before .before .before .before .is-in-range .ensures,
+      not-false (c .before .before .before .before .before .before .is-in-range .result) (c .before .before .before .before .before .if1 .left),
+      c .before .before .before .before .if2 .left,
+      eq-eqb _ _
+          (c .before .before .if3 .left),
+      ← c .before .is-reserved .ensures,
+      c .if4 .left,
+    )
 
 pub judge-event-spec : {M : Type 1} → statement M
 judge-event-spec =
