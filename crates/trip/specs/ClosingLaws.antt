@@ -14,8 +14,10 @@ use Rattle.work.specs.declared.Ending.the-variants.{Complete as Completed, Fail
 use Rattle.work.specs.Work.{firstReply, phaseAfter}
 use Rattle.plan.specs.declared.Plan.the-variants.{Work}
 use Rattle.plan.specs.Plan.{withOperand, workAfter, collected}
-use Rattle.port.specs.Packets.{replyNow, planFor, placeNext, boardNext, memoryNext}
-use Rattle.port.specs.Run.{State, stateOf, stepped, ran, replies}
+use Rattle.command.specs.Reply.{complete, busError}
+use Rattle.board.specs.State.{State, stateOf}
+use Rattle.step.specs.Step.{replyNow, left, planFor, stepped}
+use Rattle.run.specs.Run.{ran, replies}
 use Rattle.requests.specs.declared.ResultKind.{ResultKind}
 use Rattle.requests.specs.declared.ResultKind.the-variants.{NoResult, OfSize}
 use Rattle.requests.specs.declared.Outcome.{Outcome}
@@ -27,7 +29,7 @@ use Rattle.requests.specs.WordLaws.{Clear}
 use Rattle.requests.specs.FedLaws.{fed-byte, fed-word, fed-upper, fed-lower}
 use Rattle.trip.specs.Meaning.{Scene}
 use Rattle.trip.specs.Exchange.{nops, resting, closingReplies}
-use Rattle.trip.specs.StepLaws.{byPlan, under, waits-none, waits-more, due-more, operand-taken, wait-taken, nop-at-rest}
+use Rattle.trip.specs.StepLaws.{under, waits-none, waits-more, due-more, operand-taken, wait-taken, nop-at-rest}
 
 pub record Closes (kind : ResultKind) (words : List ℕ) (reader : Reader) (s : State) (outcome : Outcome) (final : State) : Type 0 where
   -- the replies to the words bring the outcome
@@ -71,29 +73,29 @@ abbrev pub worked : Ending → Scene → State
 worked e s = stateOf (s .board) (record { phase = phaseAfter e; chain = s .chain; pointer = s .pointer; next = firstReply e }) (s .memory)
 
 last : (kind : ResultKind) (reader : Reader) (s : Scene) (reply : ℕ) (outcome : Outcome) → done reader ≡ false → fed kind reader reply ≡ Closed outcome
-    → Closes kind (nops 1) reader (resting s reply) outcome (resting s 0x0FFFF)
+    → Closes kind (nops 1) reader (resting s reply) outcome (resting s complete)
 unfolding replies ran replyNow
 last kind reader s reply outcome more closed = record { answer = closed; all = rw more; state = nop-at-rest s reply }
 
 low-leaves : (s : Scene) (v : ℕ) → stepped (worked (TwoWords v) s) 0 ≡ resting s (v % 65536)
-unfolding stepped placeNext boardNext memoryNext planFor
+unfolding stepped planFor
 low-leaves s v = refl
 
-pub told : (kind : ResultKind) (e : Ending) (s : Scene) → Fits kind e → Closes kind (nops (closingReplies kind (outcomeOf e))) First (worked e s) (outcomeOf e) (resting s 0x0FFFF)
+pub told : (kind : ResultKind) (e : Ending) (s : Scene) → Fits kind e → Closes kind (nops (closingReplies kind (outcomeOf e))) First (worked e s) (outcomeOf e) (resting s complete)
 unfolding replyNow
-told NoResult Completed s f = last NoResult First s 0x0FFFF Complete refl refl
-told NoResult Failed s f = last NoResult First s 0x10001 BusError refl refl
+told NoResult Completed s f = last NoResult First s complete Complete refl refl
+told NoResult Failed s f = last NoResult First s busError BusError refl refl
 told NoResult (OneWord v) s f = absurd f
 told NoResult (TwoWords v) s f = absurd f
 told (OfSize size) Completed s f = absurd f
-told (OfSize size) Failed s f = last (OfSize size) First s 0x10001 BusError refl refl
+told (OfSize size) Failed s f = last (OfSize size) First s busError BusError refl refl
 told (OfSize Byte) (OneWord v) s f = last (OfSize Byte) First s v (Value v) refl (fed-byte v f)
 told (OfSize Word) (OneWord v) s f = last (OfSize Word) First s v (Value v) refl (fed-word v f)
 told (OfSize Long) (OneWord v) s f = absurd f
 told (OfSize Byte) (TwoWords v) s f = absurd f
 told (OfSize Word) (TwoWords v) s f = absurd f
 told (OfSize Long) (TwoWords v) s f =
-    closes-on (OfSize Long) 0 (nops 1) First (worked (TwoWords v) s) (Value v) (resting s 0x0FFFF) refl
+    closes-on (OfSize Long) 0 (nops 1) First (worked (TwoWords v) s) (Value v) (resting s complete) refl
     (rw (fed-upper v f, low-leaves s v) (last (OfSize Long) (Second (v / 65536)) s (v % 65536) (Value v) refl (fed-lower (OfSize Long) v)))
 
 -- ---- the words before them
@@ -103,8 +105,8 @@ taken t [] = t
 taken t (word ∷ words) = taken (withOperand t word) words
 
 module _ (kind : ResultKind) (c : Command) (s : State) (outcome : Outcome) (final : State) where
-  pub waited : (k n address value : ℕ) → Closes kind (nops n) First (byPlan (Work c address value) s) outcome final
-      → Closes kind (nops (k + n)) First (byPlan (workAfter k c address value) s) outcome final
+  pub waited : (k n address value : ℕ) → Closes kind (nops n) First (left (Work c address value) s) outcome final
+      → Closes kind (nops (k + n)) First (left (workAfter k c address value) s) outcome final
   unfolding replyNow
   waited zero n address value h = let none : 0 + n ≡ n = omega arith in rw (none, waits-none c address value) h
   waited (suc k) n address value h =
@@ -114,8 +116,8 @@ module _ (kind : ResultKind) (c : Command) (s : State) (outcome : Outcome) (fina
       (rw (wait-taken k c address value s 0) (waited k n address value h)))
 
   pub operands-taken : (words further : List ℕ) (t : Operands) → Clear words
-      → Closes kind further First (byPlan (collected (s .board .w) 0 c (taken t words)) s) outcome final
-      → Closes kind (words ++ further) First (byPlan (collected (s .board .w) (length words) c t) s) outcome final
+      → Closes kind further First (left (collected (s .board .w) 0 c (taken t words)) s) outcome final
+      → Closes kind (words ++ further) First (left (collected (s .board .w) (length words) c t) s) outcome final
   unfolding replyNow
   operands-taken [] further t clear h = h
   operands-taken (word ∷ words) further t clear h =

@@ -4,9 +4,12 @@ use mathlib.Core.Path.{_≡_, refl, ap, _∙_, subst}
 use mathlib.Core.Bool.{true}
 use mathlib.Core.List.{List, [], _∷_, _++_}
 use lib.ListN.{length}
-use Rattle.port.specs.Run.{State, stepped, ran, replies}
-use Rattle.port.specs.Sound.{Sound}
-use Rattle.port.specs.SoundLaws.{packet-keeps-sound}
+use Rattle.command.specs.Reply.{complete}
+use Rattle.board.specs.State.{State}
+use Rattle.step.specs.Step.{stepped}
+use Rattle.run.specs.Run.{ran, replies}
+use Rattle.sound.specs.Sound.{Sound}
+use Rattle.sound.specs.SoundLaws.{packet-keeps-sound}
 use Rattle.requests.specs.declared.Request.{Request}
 use Rattle.requests.specs.declared.Reading.the-variants.{Ended}
 use Rattle.requests.specs.declared.Reader.the-variants.{First}
@@ -33,16 +36,16 @@ unfolding ran replies
 replies-append [] ys s = refl
 replies-append (x ∷ xs) ys s = rw (replies-append xs ys (stepped s x))
 
-nops-at-rest : (n : ℕ) (s : Scene) → ran (nops n) (resting s 0x0FFFF) ≡ resting s 0x0FFFF
+nops-at-rest : (n : ℕ) (s : Scene) → ran (nops n) (resting s complete) ≡ resting s complete
 unfolding ran
 nops-at-rest zero s = refl
-nops-at-rest (suc n) s = ap (ran (nops n)) (nop-at-rest s 0x0FFFF) ∙ nops-at-rest n s
+nops-at-rest (suc n) s = ap (ran (nops n)) (nop-at-rest s complete) ∙ nops-at-rest n s
 
 pub record Beyond (request : Request) (words : List ℕ) (s : State) (n : ℕ) (m : Meaning) : Type 0 where
   -- the answer and the words used are those of the round trip
   pub answer : reading request (laterReplies (words ++ nops n) s) ≡ Ended (m .outcome) (length words - 1)
   -- and so is all that is left
-  pub state : ran (words ++ nops n) s ≡ resting (m .leaves) 0x0FFFF
+  pub state : ran (words ++ nops n) s ≡ resting (m .leaves) complete
 
 -- the words of the round trip and any number of NOPs more
 pub further-nops : (request : Request) (s : Scene) (next n : ℕ) → inRange request ≡ true → legalThere request s ≡ true → Sized s
@@ -67,7 +70,7 @@ run-keeps-sound [] s f = f
 run-keeps-sound (word ∷ words) s f = run-keeps-sound words (stepped s word) (packet-keeps-sound f word)
 
 -- a place that a request leaves is one that the next may find
-pub left-sound : (request : Request) (s : Scene) (next : ℕ) → inRange request ≡ true → legalThere request s ≡ true → Sound (resting s next) → Sound (resting (meaning request s .leaves) 0x0FFFF)
+pub left-sound : (request : Request) (s : Scene) (next : ℕ) → inRange request ≡ true → legalThere request s ≡ true → Sound (resting s next) → Sound (resting (meaning request s .leaves) complete)
 left-sound request s next h l f =
     let words = builtWords request ++ nops (nopsAfter (s .board .w) request (meaning request s .outcome)) in
     subst Sound (round-trip request s next h l (sound-is-sized f) .state) (run-keeps-sound words (resting s next) f)

@@ -1,25 +1,28 @@
 -- W plays no part in what a request means: in whether it is legal, in what it answers, or in what it leaves.
 use Prim.Native.Nat.{ℕ}
-use mathlib.Core.Path.{_≡_, refl}
+use mathlib.Core.Path.{_≡_, refl, ap}
 use Rattle.memory.specs.declared.Size.{Size}
 use Rattle.memory.specs.Memory.{present}
+use Rattle.command.specs.declared.Command.{Command}
+use Rattle.command.specs.Command.{lookedUp}
+use Rattle.board.specs.declared.Board.{Board}
 use Rattle.registers.specs.Csr.{csrValue}
-use Rattle.registers.specs.Registers.{controlListed}
+use Rattle.registers.specs.Registers.{controlListed, controlWritten, debugWritten, boardAfter}
+use Rattle.registers.specs.ChangeLaws.{each-change}
 use Rattle.requests.specs.declared.Request.{Request}
 use Rattle.requests.specs.declared.Request.the-variants.{Rdreg, Wdreg, Read, Write, Dump, Fill, Go, Nop, SyncPc, Rcreg, Wcreg, Rdmreg, Wdmreg}
-use Rattle.trip.specs.Meaning.{Scene, Meaning, meaning, reads, writes}
+use Rattle.requests.specs.declared.Outcome.the-variants.{Complete}
+use Rattle.requests.specs.Meant.{debugRows}
+use Rattle.trip.specs.Meaning.{Scene, Meaning, ends, meaning, reads, writes}
 use Rattle.trip.specs.Exchange.{legalThere}
-use Rattle.trip.specs.StepLaws.{by-test}
+use Rattle.laws.specs.Tests.{by-test}
 
 -- the same with another wait setting
+abbrev boardAtW : ℕ → Board → Board
+boardAtW w b = record { w = w; status = b .status; registers = b .registers; debug = b .debug }
+
 abbrev pub atW : ℕ → Scene → Scene
-atW w s =
-    record {
-      board = record { w = w; status = s .board .status; registers = s .board .registers; debug = s .board .debug };
-      chain = s .chain;
-      pointer = s .pointer;
-      memory = s .memory;
-    }
+atW w s = record { board = boardAtW w (s .board); chain = s .chain; pointer = s .pointer; memory = s .memory }
 
 abbrev pub meantAtW : ℕ → Meaning → Meaning
 meantAtW w m = record { outcome = m .outcome; leaves = atW w (m .leaves) }
@@ -29,6 +32,21 @@ pub record SameAt (w : ℕ) (request : Request) (s : Scene) : Type 0 where
   pub legal : legalThere request (atW w s) ≡ legalThere request s
   -- it answers the same, and leaves the same but for W
   pub meant : meaning request (atW w s) ≡ meantAtW w (meaning request s)
+
+work-at : (w : ℕ) (b : Board) (c : Command) (address value : ℕ) → boardAfter c (boardAtW w b) address value ≡ boardAtW w (boardAfter c b address value)
+unfolding controlWritten debugWritten
+work-at w b c address value =
+    each-change (λ change. change (boardAtW w b) ≡ boardAtW w (change b)) address value
+    (record {
+      none = refl;
+      csrRead = refl;
+      general = λ n. refl;
+      control = by-test (controlListed address) (λ h. rw h) (λ h. rw h);
+      debug = λ r. refl;
+      go = refl;
+      syncPc = refl;
+    })
+    c
 
 module _ (w : ℕ) (s : Scene) where
   read-at : (size : Size) (a : ℕ) → reads size a (atW w s) ≡ meantAtW w (reads size a s)
@@ -51,7 +69,7 @@ module _ (w : ℕ) (s : Scene) where
   same-meaning (Rcreg rc) = by-test (controlListed rc) (λ h. rw h) (λ h. rw h)
   same-meaning (Wcreg rc v) = by-test (controlListed rc) (λ h. rw h) (λ h. rw h)
   same-meaning (Rdmreg n) = refl
-  same-meaning (Wdmreg n v) = refl
+  same-meaning (Wdmreg n v) = ap (λ b. ends Complete b (atW w s)) (work-at w (s .board) (lookedUp n debugRows) 0 v)
 
   pub same-at-every-w : (request : Request) → SameAt w request s
   same-at-every-w request = record { legal = refl; meant = same-meaning request }

@@ -6,9 +6,11 @@ use lib.ListN.{length, getD, replicate}
 use Rattle.board.specs.declared.Phase.the-variants.{Rest}
 use Rattle.board.specs.declared.Chain.the-variants.{Off}
 use Rattle.board.specs.Board.{atRest}
+use Rattle.board.specs.declared.Standing.{Standing}
+use Rattle.command.specs.Reply.{complete, illegal}
 use Rattle.plan.specs.Plan.{legalWord, waitsOf}
-use Rattle.port.specs.Packets.{replyNow}
-use Rattle.port.specs.Run.{State, stateOf, stepped}
+use Rattle.step.specs.Step.{replyNow, stepped}
+use Rattle.board.specs.State.{State, stateOf}
 use Rattle.requests.specs.declared.Request.{Request}
 use Rattle.requests.specs.declared.ResultKind.{ResultKind}
 use Rattle.requests.specs.declared.Outcome.{Outcome}
@@ -47,6 +49,13 @@ restNops (suc k) s = cond (atRest (s .place .phase)) 0 (suc (restNops k (stepped
 abbrev pub restBudget : ℕ
 restBudget = 19
 
+-- what stands there once it is brought to rest, and how many NOPs bring it there
+abbrev pub restScene : State → Scene
+restScene s = sceneOf (rested restBudget s)
+
+abbrev pub restPackets : State → ℕ
+restPackets s = restNops restBudget s
+
 -- ---- the words sent and the replies read
 pub record Talk : Type 0 where
   pub reader : Reader
@@ -72,9 +81,12 @@ unfoldable pub exchanged : Request → State → Talk
 exchanged request s = talked talkBudget request 1 First (stepped s (commandWord request))
 
 -- ---- what an exchange from rest comes to
+abbrev pub standingIn : Scene → Standing
+standingIn s = record { halted = s .board .status .halted; chain = s .chain }
+
 -- the command word is legal there
 abbrev pub legalThere : Request → Scene → Bool
-legalThere request s = legalWord (commandWord request) (s .board .status .halted) (s .chain)
+legalThere request s = legalWord (commandWord request) (standingIn s)
 
 abbrev pub outcomeThere : Request → Scene → Outcome
 outcomeThere request s = cond (legalThere request s) (meaning request s .outcome) Illegal
@@ -90,7 +102,7 @@ unchained s = record { board = s .board; chain = Off; pointer = s .pointer; memo
 -- legal: what is meant, at rest, the closing reply gone with a NOP. Illegal: "the next reply is 0x1FFFF and the port is at rest", and that reply leaves with
 -- the second word, itself "a command word taken"
 unfoldable pub stateThere : Request → Scene → State
-stateThere request s = cond (legalThere request s) (resting (meaning request s .leaves) 0x0FFFF) (stepped (resting (unchained s) 0x1FFFF) (secondWord request))
+stateThere request s = cond (legalThere request s) (resting (meaning request s .leaves) complete) (stepped (resting (unchained s) illegal) (secondWord request))
 
 -- the replies that close a request: the words of its value, or one
 abbrev pub closingReplies : ResultKind → Outcome → ℕ

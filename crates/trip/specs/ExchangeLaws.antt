@@ -7,10 +7,12 @@ use mathlib.Core.Bool.{true, false}
 use mathlib.Core.List.{List, [], _∷_, _++_}
 use lib.ListN.{length, getD, length-append, length-replicate}
 use Rattle.board.specs.Board.{atRest}
-use Rattle.port.specs.Packets.{replyNow}
-use Rattle.port.specs.Run.{State, stepped, ran, replies}
-use Rattle.port.specs.Sound.{Sound}
-use Rattle.rest.specs.ToGo.{waits-at-most}
+use Rattle.step.specs.Step.{replyNow, stepped}
+use Rattle.command.specs.Reply.{complete, illegal}
+use Rattle.board.specs.State.{State}
+use Rattle.run.specs.Run.{ran, replies}
+use Rattle.sound.specs.Sound.{Sound}
+use Rattle.rest.specs.ToGoLaws.{waits-at-most}
 use Rattle.requests.specs.declared.Request.{Request}
 use Rattle.requests.specs.declared.ResultKind.{ResultKind}
 use Rattle.requests.specs.declared.ResultKind.the-variants.{NoResult, OfSize}
@@ -26,12 +28,12 @@ use Rattle.requests.specs.ReaderLaws.{done-uses-none}
 use Rattle.requests.specs.Meant.{commandOf}
 use Rattle.requests.specs.CountLaws.{word-count-bound}
 use Rattle.trip.specs.Meaning.{Scene, meaning}
-use Rattle.trip.specs.Exchange.{nops, resting, sceneOf, talk, talked, talkBudget, exchanged, unchained, secondWord, legalThere, outcomeThere, stateThere, closingReplies, nopsAfter, packetsThere}
+use Rattle.trip.specs.Exchange.{nops, resting, sceneOf, rested, restBudget, restScene, talk, talked, talkBudget, exchanged, unchained, secondWord, legalThere, outcomeThere, stateThere, closingReplies, nopsAfter, packetsThere}
 use Rattle.trip.specs.ClosingLaws.{Closes}
 use Rattle.trip.specs.WorkLaws.{Sized, sound-is-sized}
 use Rattle.trip.specs.RoundTrip.{legal-closes, illegal-closes}
-use Rattle.trip.specs.RestLaws.{rest-is-resting}
-use Rattle.trip.specs.StepLaws.{by-test}
+use Rattle.trip.specs.RestLaws.{rest-is-resting, comes-to-rest, rest-keeps-sound}
+use Rattle.laws.specs.Tests.{by-test}
 
 -- ---- the words sent, one after the other
 -- a list of words is what a request sends from its i-th packet on
@@ -90,23 +92,23 @@ nops-after-bound w request outcome h = omega (arith, waits-at-most w (commandOf 
 module _ (request : Request) (s : Scene) (next : ℕ) (h : inRange request ≡ true) where
   legal-talk : legalThere request s ≡ true → Sized s → s .board .w ≤ 15
       → exchanged request (resting s next)
-      ≡ talk (Closed (meaning request s .outcome)) (resting (meaning request s .leaves) 0x0FFFF) (length (builtWords request) + nopsAfter (s .board .w) request (meaning request s .outcome))
+      ≡ talk (Closed (meaning request s .outcome)) (resting (meaning request s .leaves) complete) (length (builtWords request) + nopsAfter (s .board .w) request (meaning request s .outcome))
   unfolding exchanged
   legal-talk l z small =
       let o = meaning request s .outcome in
       let n = nopsAfter (s .board .w) request o in
       let len = words-length (operands request) n in
       let sum : 1 + length (operands request ++ nops n) ≡ length (builtWords request) + n = omega arith in
-      sent-to-the-end talkBudget request (operands request ++ nops n) 1 First (stepped (resting s next) (commandWord request)) o (resting (meaning request s .leaves) 0x0FFFF)
+      sent-to-the-end talkBudget request (operands request ++ nops n) 1 First (stepped (resting s next) (commandWord request)) o (resting (meaning request s .leaves) complete)
       (along-all (builtWords request) n .1)
       (omega (arith, word-count-bound request, nops-after-bound (s .board .w) request o small))
       (legal-closes request s next h l z)
       ∙ rw sum
 
-  illegal-talk : legalThere request s ≡ false → exchanged request (resting s next) ≡ talk (Closed Illegal) (stepped (resting (unchained s) 0x1FFFF) (secondWord request)) 2
+  illegal-talk : legalThere request s ≡ false → exchanged request (resting s next) ≡ talk (Closed Illegal) (stepped (resting (unchained s) illegal) (secondWord request)) 2
   unfolding exchanged
   illegal-talk l =
-      sent-to-the-end talkBudget request (secondWord request ∷ []) 1 First (stepped (resting s next) (commandWord request)) Illegal (stepped (resting (unchained s) 0x1FFFF) (secondWord request))
+      sent-to-the-end talkBudget request (secondWord request ∷ []) 1 First (stepped (resting s next) (commandWord request)) Illegal (stepped (resting (unchained s) illegal) (secondWord request))
       (refl, tt) (omega arith) (illegal-closes request s next l)
 
   -- from rest an exchange ends, in the outcome, the state and the number of packets that are meant
@@ -119,7 +121,12 @@ pub exchange-comes-to : (request : Request) {s : State} → inRange request ≡ 
 exchange-comes-to request {s} h f t =
     subst (λ (x : State). exchanged request x ≡ talk (Closed (outcomeThere request (sceneOf s))) (stateThere request (sceneOf s)) (packetsThere request (sceneOf s)))
     (sym (rest-is-resting s t))
-    (exchange-from-rest request (sceneOf s) (s .place .next) h (sound-is-sized f) (f .board .setting))
+    (exchange-from-rest request (sceneOf s) (s .place .next) h (sound-is-sized f) (f .board .small))
+
+-- and from anywhere, once it is brought to rest
+pub exchange-from-anywhere : (request : Request) {s : State} → inRange request ≡ true → Sound s
+    → exchanged request (rested restBudget s) ≡ talk (Closed (outcomeThere request (restScene s))) (stateThere request (restScene s)) (packetsThere request (restScene s))
+exchange-from-anywhere request {s} h f = exchange-comes-to request h (rest-keeps-sound restBudget s f) (comes-to-rest f)
 
 pub packets-bound : (request : Request) (s : Scene) → s .board .w ≤ 15 → packetsThere request s ≤ 22
 unfolding packetsThere

@@ -2,20 +2,22 @@
 use Prim.Native.Nat.{ℕ}
 use mathlib.Core.Bool.{cond}
 use mathlib.Core.List.{List}
-use lib.Dec.{eqb}
 use lib.ListN.{getD, set}
 use Rattle.memory.specs.declared.Size.{Size}
 use Rattle.memory.specs.Memory.{aligned, present, valueAt, putAt}
+use Rattle.command.specs.Command.{lookedUp}
 use Rattle.board.specs.declared.Board.{Board}
 use Rattle.board.specs.declared.Chain.{Chain}
 use Rattle.board.specs.declared.Chain.the-variants.{Off, Dumping, Filling}
 use Rattle.registers.specs.Csr.{csrValue, afterCsrRead, afterGo, afterSyncPc}
-use Rattle.registers.specs.Registers.{controlPlace, controlListed, withStatus, withRegisters, debugLoaded, armed}
+use Rattle.board.specs.Setters.{withStatus, withRegisters, withGeneral, withControl}
+use Rattle.registers.specs.Registers.{controlIndex, controlListed, boardAfter}
 use Rattle.work.specs.Access.{past}
 use Rattle.requests.specs.declared.Request.{Request}
 use Rattle.requests.specs.declared.Request.the-variants.{Rdreg, Wdreg, Read, Write, Dump, Fill, Go, Nop, SyncPc, Rcreg, Wcreg, Rdmreg, Wdmreg}
 use Rattle.requests.specs.declared.Outcome.{Outcome}
 use Rattle.requests.specs.declared.Outcome.the-variants.{Value, Complete, BusError}
+use Rattle.requests.specs.Meant.{debugRows}
 
 -- all that a request finds and leaves
 pub record Scene : Type 0 where
@@ -58,22 +60,21 @@ writes size address value s =
 
 -- "a second not listed, is a bus error"
 abbrev pub readsControl : ℕ → Scene → Meaning
-readsControl rc s = cond (controlListed rc) (ends (Value (getD (s .board .registers .control) (controlPlace rc) 0)) (s .board) s) (fails s)
+readsControl rc s = cond (controlListed rc) (ends (Value (getD (s .board .registers .control) (controlIndex rc) 0)) (s .board) s) (fails s)
 
 abbrev pub writesControl : ℕ → ℕ → Scene → Meaning
 writesControl rc value s =
     cond (controlListed rc)
-    (ends Complete (withRegisters (s .board) (record { general = s .board .registers .general; control = set (s .board .registers .control) (controlPlace rc) value })) s)
+    (ends Complete (withRegisters (s .board) (withControl (s .board .registers) (set (s .board .registers .control) (controlIndex rc) value))) s)
     (fails s)
 
 -- a data or address register written
 abbrev pub withRegister : Board → ℕ → ℕ → Board
-withRegister b register value = withRegisters b (record { general = set (b .registers .general) register value; control = b .registers .control })
+withRegister b register value = withRegisters b (withGeneral (b .registers) (set (b .registers .general) register value))
 
--- the debug register of number n written; 0x07 is TDR: "A TDR write sets BSTAT"
-abbrev pub withDebug : Board → ℕ → ℕ → Board
-withDebug b n value =
-    record { w = b .w; status = cond (eqb n 0x07) (armed (b .status) value) (b .status); registers = b .registers; debug = debugLoaded n value (b .debug) }
+-- the debug register that is listed under n written
+abbrev pub withDebugRegister : Board → ℕ → ℕ → Board
+withDebugRegister b n value = boardAfter (lookedUp n debugRows) b 0 value
 
 -- what each request answers and leaves where its command word is legal
 abbrev pub meaning : Request → Scene → Meaning
@@ -89,4 +90,4 @@ meaning SyncPc s = ends Complete (withStatus (s .board) (afterSyncPc (s .board .
 meaning (Rcreg rc) s = readsControl rc s
 meaning (Wcreg rc value) s = writesControl rc value s
 meaning (Rdmreg n) s = ends (Value (csrValue (s .board))) (withStatus (s .board) (afterCsrRead (s .board .status))) s
-meaning (Wdmreg n value) s = ends Complete (withDebug (s .board) n value) s
+meaning (Wdmreg n value) s = ends Complete (withDebugRegister (s .board) n value) s

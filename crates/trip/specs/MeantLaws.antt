@@ -10,7 +10,7 @@ use Rattle.command.specs.declared.Command.{Command}
 use Rattle.command.specs.declared.Command.the-variants.{Unknown}
 use Rattle.command.specs.declared.Base.the-variants.{Address, Pointer}
 use Rattle.command.specs.Command.{decoded, operandWords}
-use Rattle.board.specs.declared.Chain.{Chain}
+use Rattle.board.specs.declared.Standing.{Standing}
 use Rattle.plan.specs.Plan.{carriesC, legalCommand, noOperands, addressIn, valueIn}
 use Rattle.requests.specs.declared.Request.{Request}
 use Rattle.requests.specs.declared.Request.the-variants.{Rdreg, Wdreg, Read, Write, Dump, Fill, Go, Nop, SyncPc, Rcreg, Wcreg, Rdmreg, Wdmreg}
@@ -22,22 +22,22 @@ use Rattle.requests.specs.Meant.{commandOf}
 use Rattle.requests.specs.MeantLaws.{decoded-as-meant}
 use Rattle.requests.specs.CountLaws.{found-rdmreg, operand-count}
 use Rattle.trip.specs.Meaning.{Scene, meaning}
-use Rattle.trip.specs.Exchange.{legalThere}
+use Rattle.trip.specs.Exchange.{standingIn, legalThere}
 use Rattle.trip.specs.ClosingLaws.{taken}
 use Rattle.trip.specs.WorkLaws.{Meant, load-meant, store-meant, read-control-meant, write-control-meant, csr-fits, debug-meant}
 
 -- a legal word is a command's
-no-command : (c : Command) (halted : Bool) (chain : Chain) → legalCommand c halted chain ≡ true → c ≡ Unknown → ⊥
-no-command c halted chain l e =
-    let unknown : legalCommand Unknown halted chain ≡ true = rw e at l in
-    let no : false ≡ true = and-right (halted || true) false unknown in
+no-command : (c : Command) (s : Standing) → legalCommand c s ≡ true → c ≡ Unknown → ⊥
+no-command c s l e =
+    let unknown : legalCommand Unknown s ≡ true = rw e at l in
+    let no : false ≡ true = and-right (s .halted || true) false unknown in
     let z : _≡_ {A = ℕ} 0 1 = cc in
     omega arith
 
 pub legal-is-known : (request : Request) (s : Scene) → inRange request ≡ true → legalThere request s ≡ true → commandOf request ≡ Unknown → ⊥
 legal-is-known request s h l e =
-    no-command (decoded (commandWord request)) (s .board .status .halted) (s .chain)
-    (and-right (not (carriesC (commandWord request))) (legalCommand (decoded (commandWord request)) (s .board .status .halted) (s .chain)) l)
+    no-command (decoded (commandWord request)) (standingIn s)
+    (and-right (not (carriesC (commandWord request))) (legalCommand (decoded (commandWord request)) (standingIn s)) l)
     (rw (decoded-as-meant request h) e)
 
 -- the address and the data that the port takes from a request's operand words

@@ -3,7 +3,8 @@ use Prim.Native.Nat.{ℕ, _-_, _<_}
 use mathlib.Core.Path.{_≡_}
 use mathlib.Core.List.{List}
 use lib.ListN.{length, take, drop}
-use Rattle.port.specs.Run.{State, ran, replies}
+use Rattle.board.specs.State.{State}
+use Rattle.run.specs.Run.{ran, replies}
 use Rattle.requests.specs.declared.Request.{Request}
 use Rattle.requests.specs.declared.Outcome.{Outcome}
 use Rattle.requests.specs.declared.Reading.the-variants.{Ended, NotYet}

@@ -6,17 +6,19 @@ use mathlib.Core.Bool.{true}
 use Rattle.board.specs.declared.Phase.{Phase}
 use Rattle.board.specs.declared.Phase.the-variants.{Rest, Due, Waiting, Low}
 use Rattle.board.specs.Board.{atRest}
-use Rattle.port.specs.Run.{State, stateOf, stepped, ran}
-use Rattle.port.specs.Sound.{Sound}
-use Rattle.port.specs.SoundLaws.{packet-keeps-w, packet-keeps-sound}
-use Rattle.rest.specs.ToGo.{toGo, to-go-at-most, none-to-go, some-to-go}
+use Rattle.board.specs.State.{State, stateOf}
+use Rattle.step.specs.Step.{stepped}
+use Rattle.run.specs.Run.{ran}
+use Rattle.sound.specs.Sound.{Sound}
+use Rattle.sound.specs.SoundLaws.{packet-keeps-board, packet-keeps-sound}
+use Rattle.rest.specs.ToGoLaws.{toGo, to-go-at-most, none-to-go, some-to-go}
 use Rattle.rest.specs.NopLaws.{nop-takes-one-off}
 use Rattle.trip.specs.Exchange.{nops, resting, sceneOf, rested, restNops, restBudget}
-use Rattle.trip.specs.StepLaws.{by-test}
+use Rattle.laws.specs.Tests.{by-test}
 
 nop-leaves : {s : State} → Sound s → toGo (stepped s 0 .board .w) (stepped s 0 .place .phase) ≤ toGo (s .board .w) (s .place .phase) - 1
-unfolding stepped
-nop-leaves {s} f = rw (packet-keeps-w (s .board) (s .place) 0) (nop-takes-one-off (s .board .w) (s .board) (s .place) (s .memory) refl (f .place .phase))
+nop-leaves {s} f =
+    rw (packet-keeps-board (s .board .w) s (f .board) (f .place) (f .memory) 0 .setting) (nop-takes-one-off (s .board .w) s refl (f .place .phase))
 
 rests-within : (k : ℕ) (s : State) → Sound s → toGo (s .board .w) (s .place .phase) ≤ k → atRest (rested k s .place .phase) ≡ true
 unfolding rested
@@ -29,7 +31,7 @@ pub four-and-w : (k : ℕ) {s : State} → Sound s → 4 + s .board .w ≤ k →
 four-and-w k {s} f h = rests-within k s f (omega (arith, to-go-at-most (s .board .w) (s .place .phase) (f .place .phase)))
 
 pub comes-to-rest : {s : State} → Sound s → atRest (rested restBudget s .place .phase) ≡ true
-comes-to-rest f = four-and-w restBudget f (omega (arith, f .board .setting))
+comes-to-rest f = four-and-w restBudget f (omega (arith, f .board .small))
 
 pub rest-keeps-sound : (k : ℕ) (s : State) → Sound s → Sound (rested k s)
 unfolding rested

@@ -8,10 +8,11 @@ use Rattle.command.specs.Command.{decoded, decodedWord}
 use Rattle.board.specs.declared.Chain.the-variants.{Off}
 use Rattle.board.specs.Board.{freshBoard, freshPlace}
 use Rattle.registers.specs.Csr.{csrValue}
-use Rattle.registers.specs.Registers.{controlPlace}
+use Rattle.registers.specs.Registers.{controlIndex}
 use Rattle.plan.specs.Plan.{workAfter, collected, begun, continued}
-use Rattle.port.specs.Packets.{planFor, replyNow, placeNext, boardNext, memoryNext}
-use Rattle.port.specs.Run.{stateOf, stepped, ran}
+use Rattle.board.specs.State.{stateOf}
+use Rattle.step.specs.Step.{replyNow, planFor, stepped}
+use Rattle.run.specs.Run.{ran}
 use Rattle.requests.specs.declared.Request.the-variants.{Read, Write, Dump, Fill, Rcreg, Rdmreg}
 use Rattle.requests.specs.declared.Outcome.the-variants.{Value, BusError, Illegal}
 use Rattle.trip.specs.Meaning.{Scene, meaning}
@@ -63,10 +64,10 @@ fill-means = refl
 
 -- a control register that is not listed
 pub rcreg-unlisted : (w : ℕ) (m : List ℕ) → outcomeThere (Rcreg 0x003) (fresh w m) ≡ BusError
-unfolding freshBoard decoded decodedWord controlPlace
+unfolding freshBoard decoded decodedWord controlIndex
 rcreg-unlisted w m = refl
 
 -- after a READ's command word alone two NOPs and W are sent as operands and waits, and one carries the upper word out
 pub half-sent-rests : restNops restBudget (ran (0x1980 ∷ []) (stateOf (freshBoard 2) freshPlace sixteen)) ≡ 5
-unfolding restNops ran stepped freshBoard freshPlace replyNow placeNext boardNext memoryNext planFor begun continued collected workAfter decoded decodedWord fetched
+unfolding restNops ran stepped freshBoard freshPlace replyNow planFor begun continued collected workAfter decoded decodedWord fetched
 half-sent-rests = refl

@@ -2,12 +2,13 @@
 use Prim.Native.Nat.{ℕ, zero, suc, _-_, _≤_}
 use native.Mathlib.Omega.{arith}
 use mathlib.Core.Path.{_≡_, refl, ap}
-use mathlib.Core.Bool.{Bool, true, false}
+use mathlib.Core.Bool.{true, false}
 use borrow.Author.Tests.{lt-leb, ne-eqb}
 use Rattle.command.specs.declared.Command.{Command}
 use Rattle.command.specs.declared.Command.the-variants.{Unknown, Nop, Load, Store, Show, Change}
 use Rattle.command.specs.declared.Base.the-variants.{Address, Pointer}
 use Rattle.command.specs.Command.{decoded, operandWords}
+use Rattle.command.specs.Reply.{complete, notReady, illegal}
 use Rattle.board.specs.declared.Operands.{Operands}
 use Rattle.board.specs.declared.Chain.{Chain}
 use Rattle.board.specs.declared.Phase.{Phase}
@@ -17,27 +18,13 @@ use Rattle.work.specs.declared.Ending.the-variants.{Complete, Failed, OneWord, 
 use Rattle.work.specs.Access.{accessOf, memoryAfter, pointerAfter}
 use Rattle.work.specs.Work.{endingOf, firstReply, phaseAfter, chainBy, chainAfter}
 use Rattle.registers.specs.Registers.{boardAfter}
-use Rattle.plan.specs.declared.Plan.{Plan}
 use Rattle.plan.specs.declared.Plan.the-variants.{Hold, Work}
 use Rattle.plan.specs.Plan.{withOperand, noOperands, addressIn, valueIn, waitsOf, workAfter, collected, begun, continued, legalWord}
-use Rattle.port.specs.Packets.{chainDuring, placeBy, boardBy, memoryBy, planFor, placeNext, boardNext, memoryNext}
-use Rattle.port.specs.Run.{State, stateOf, stepped}
-use Rattle.port.specs.QuietLaws.{nop-plan}
+use Rattle.plan.specs.PlanLaws.{nop-plan}
+use Rattle.board.specs.State.{State, stateOf}
+use Rattle.step.specs.Step.{chainDuring, left, planFor, stepped}
 use Rattle.trip.specs.Meaning.{Scene}
-use Rattle.trip.specs.Exchange.{resting, unchained}
-
--- by cases of a test
-pub by-test : {A : Type 0} (t : Bool) → (t ≡ true → A) → (t ≡ false → A) → A
-by-test true f g = f refl
-by-test false f g = g refl
-
--- what a plan leaves of a state
-abbrev pub byPlan : Plan → State → State
-byPlan plan s = stateOf (boardBy plan (s .board)) (placeBy plan (s .board) (s .place) (s .memory)) (memoryBy plan (s .place) (s .memory))
-
-pub step-by-plan : (s : State) (word : ℕ) → stepped s word ≡ byPlan (planFor (s .board) (s .place) word) s
-unfolding stepped placeNext boardNext memoryNext
-step-by-plan s word = refl
+use Rattle.trip.specs.Exchange.{resting, unchained, standingIn}
 
 during-during : (c : Command) (chain : Chain) → chainDuring c (chainDuring c chain) ≡ chainDuring c chain
 during-during Unknown chain = refl
@@ -65,7 +52,7 @@ after-during (TwoWords v) c chain = by-during c chain
 
 -- the state while a command is under way
 abbrev pub under : Command → Phase → State → State
-under c phase s = stateOf (s .board) (record { phase = phase; chain = chainDuring c (s .place .chain); pointer = s .place .pointer; next = 0x10000 }) (s .memory)
+under c phase s = stateOf (s .board) (record { phase = phase; chain = chainDuring c (s .place .chain); pointer = s .place .pointer; next = notReady }) (s .memory)
 
 -- what is left decides the plan
 pub waits-none : (c : Command) (address value : ℕ) → workAfter 0 c address value ≡ Work c address value
@@ -87,9 +74,9 @@ due-more w n c t = rw (ne-eqb (suc n) 0 (omega arith))
 module _ (c : Command) (phase : Phase) (s : State) where
   under-again : (further : Phase) → under c further (under c phase s) ≡ under c further s
   under-again further =
-      ap (λ (chain : Chain). stateOf (s .board) (record { phase = further; chain = chain; pointer = s .place .pointer; next = 0x10000 }) (s .memory)) (during-during c (s .place .chain))
+      ap (λ (chain : Chain). stateOf (s .board) (record { phase = further; chain = chain; pointer = s .place .pointer; next = notReady }) (s .memory)) (during-during c (s .place .chain))
 
-  work-under : (address value : ℕ) → byPlan (Work c address value) (under c phase s) ≡ byPlan (Work c address value) s
+  work-under : (address value : ℕ) → left (Work c address value) (under c phase s) ≡ left (Work c address value) s
   work-under address value =
       let access = accessOf c (s .memory) (s .place .pointer) address in
       let ending : Ending = endingOf c (s .board) address access in
@@ -100,40 +87,40 @@ module _ (c : Command) (phase : Phase) (s : State) where
       (memoryAfter c (s .memory) (s .place .pointer) address value))
       (after-during ending c (s .place .chain))
 
-  ready-under : (k address value : ℕ) → byPlan (workAfter k c address value) (under c phase s) ≡ byPlan (workAfter k c address value) s
+  ready-under : (k address value : ℕ) → left (workAfter k c address value) (under c phase s) ≡ left (workAfter k c address value) s
   ready-under zero address value = rw (waits-none c address value) (work-under address value)
   ready-under (suc k) address value = rw (waits-more k c address value) (under-again (Waiting c (suc k) address value))
 
-  collected-under : (w n : ℕ) (t : Operands) → byPlan (collected w n c t) (under c phase s) ≡ byPlan (collected w n c t) s
+  collected-under : (w n : ℕ) (t : Operands) → left (collected w n c t) (under c phase s) ≡ left (collected w n c t) s
   collected-under w zero t = rw (due-none w c t) (ready-under (waitsOf w c) (addressIn (operandWords c) t) (valueIn (operandWords c) t))
   collected-under w (suc n) t = rw (due-more w n c t) (under-again (Due c (suc n) t))
 
 -- an operand word with C clear is taken
 pub operand-taken : (n : ℕ) (c : Command) (t : Operands) (s : State) (word : ℕ) → word ≤ 0xFFFF
-    → stepped (under c (Due c (suc n) t) s) word ≡ byPlan (collected (s .board .w) n c (withOperand t word)) s
-unfolding stepped placeNext boardNext memoryNext planFor continued
+    → stepped (under c (Due c (suc n) t) s) word ≡ left (collected (s .board .w) n c (withOperand t word)) s
+unfolding stepped planFor continued
 operand-taken n c t s word clear =
     let one-less : suc n - 1 ≡ n = omega arith in
     rw (lt-leb 0x10000 word (omega arith), one-less) (collected-under c (Due c (suc n) t) s (s .board .w) n (withOperand t word))
 
 -- a packet waited for
 pub wait-taken : (k : ℕ) (c : Command) (address value : ℕ) (s : State) (word : ℕ)
-    → stepped (under c (Waiting c (suc k) address value) s) word ≡ byPlan (workAfter k c address value) s
-unfolding stepped placeNext boardNext memoryNext planFor
+    → stepped (under c (Waiting c (suc k) address value) s) word ≡ left (workAfter k c address value) s
+unfolding stepped planFor
 wait-taken k c address value s word = let one-less : suc k - 1 ≡ k = omega arith in rw one-less (ready-under c (Waiting c (suc k) address value) s k address value)
 
 -- "Every packet accepted at rest is a command word taken"
-pub command-taken : (c : Command) (word next : ℕ) (s : Scene) → decoded word ≡ c → legalWord word (s .board .status .halted) (s .chain) ≡ true
-    → stepped (resting s next) word ≡ byPlan (collected (s .board .w) (operandWords c) c noOperands) (resting s next)
-unfolding stepped placeNext boardNext memoryNext planFor begun
+pub command-taken : (c : Command) (word next : ℕ) (s : Scene) → decoded word ≡ c → legalWord word (standingIn s) ≡ true
+    → stepped (resting s next) word ≡ left (collected (s .board .w) (operandWords c) c noOperands) (resting s next)
+unfolding stepped planFor begun
 command-taken c word next s d l = rw (l, d)
 
 -- ".. is illegal: the next reply is 0x1FFFF and the port is at rest"
-pub illegal-taken : (word next : ℕ) (s : Scene) → legalWord word (s .board .status .halted) (s .chain) ≡ false → stepped (resting s next) word ≡ resting (unchained s) 0x1FFFF
-unfolding stepped placeNext boardNext memoryNext planFor begun
+pub illegal-taken : (word next : ℕ) (s : Scene) → legalWord word (standingIn s) ≡ false → stepped (resting s next) word ≡ resting (unchained s) illegal
+unfolding stepped planFor begun
 illegal-taken word next s l = rw l
 
 -- a NOP at rest: all stays, and the next reply is "complete"
-pub nop-at-rest : (s : Scene) (next : ℕ) → stepped (resting s next) 0 ≡ resting s 0x0FFFF
-unfolding stepped placeNext boardNext memoryNext planFor
-nop-at-rest s next = rw (nop-plan (s .board .status .halted) (s .chain) (s .board .w))
+pub nop-at-rest : (s : Scene) (next : ℕ) → stepped (resting s next) 0 ≡ resting s complete
+unfolding stepped planFor
+nop-at-rest s next = rw (nop-plan (standingIn s) (s .board .w))

@@ -7,10 +7,10 @@ use mathlib.Core.Bool.{true, false}
 use mathlib.Core.List.{List, [], _∷_}
 use lib.ListN.{getD}
 use Rattle.board.specs.Board.{atRest}
-use Rattle.port.specs.Packets.{replyNow}
-use Rattle.port.specs.Run.{State, stepped}
-use Rattle.port.specs.Sound.{Sound}
-use Rattle.port.specs.SoundLaws.{packet-keeps-sound}
+use Rattle.step.specs.Step.{replyNow, stepped}
+use Rattle.board.specs.State.{State}
+use Rattle.sound.specs.Sound.{Sound}
+use Rattle.sound.specs.SoundLaws.{packet-keeps-sound}
 use Rattle.requests.specs.declared.Request.{Request}
 use Rattle.requests.specs.declared.Reader.{Reader}
 use Rattle.requests.specs.declared.Reader.the-variants.{First}

@@ -22,20 +22,20 @@ use Rattle.work.specs.declared.Access.the-variants.{Fetched, Missing}
 use Rattle.work.specs.declared.Ending.{Ending}
 use Rattle.work.specs.Access.{past, fetching, startOf, accessOf, memoryAfter, pointerAfter}
 use Rattle.work.specs.Work.{accessEnding, endingOf, chainBy, chainAfter}
-use Rattle.port.specs.Run.{State}
-use Rattle.port.specs.Sound.{Sound}
+use Rattle.board.specs.State.{State}
+use Rattle.sound.specs.Sound.{Sound}
 use Rattle.registers.specs.Csr.{flag, csrValue}
-use Rattle.registers.specs.Registers.{controlPlace, controlListed, controlFetched, withControl, withDebugWritten, debugNumber, boardAfter}
+use Rattle.registers.specs.Registers.{controlIndex, controlListed, controlFetched, controlWritten, debugWritten, boardAfter}
 use Rattle.requests.specs.declared.Request.the-variants.{Wdmreg}
 use Rattle.requests.specs.declared.ResultKind.{ResultKind}
 use Rattle.requests.specs.declared.ResultKind.the-variants.{NoResult, OfSize}
-use Rattle.requests.specs.declared.Outcome.the-variants.{Value}
+use Rattle.requests.specs.declared.Outcome.the-variants.{Value, Complete}
 use Rattle.requests.specs.Meant.{debugRows}
 use Rattle.requests.specs.CountLaws.{found-has}
-use Rattle.trip.specs.Meaning.{Scene, Meaning, meaning, reads, writes, readsControl, writesControl}
+use Rattle.trip.specs.Meaning.{Scene, Meaning, meaning, ends, reads, writes, readsControl, writesControl}
 use Rattle.trip.specs.Exchange.{sceneOf}
 use Rattle.trip.specs.ClosingLaws.{outcomeOf, Fits}
-use Rattle.trip.specs.StepLaws.{by-test}
+use Rattle.laws.specs.Tests.{by-test}
 
 -- what the port's work ends in, and what it leaves
 abbrev pub workEnding : Command → ℕ → Scene → Ending
@@ -131,11 +131,11 @@ module _ (s : Scene) where
   unfolding controlFetched
   read-control-meant rc v =
       by-test (controlListed rc)
-      (λ h. record { outcome = rw h; leaves = rw h; fits = λ f. rw h (omega (arith, f .control (controlPlace rc))) })
+      (λ h. record { outcome = rw h; leaves = rw h; fits = λ f. rw h (omega (arith, f .control (controlIndex rc))) })
       (λ h. record { outcome = rw h; leaves = rw h; fits = λ f. rw h tt })
 
   pub write-control-meant : (rc v : ℕ) → Meant command.wcreg rc v NoResult s (writesControl rc v s)
-  unfolding controlFetched withControl
+  unfolding controlFetched controlWritten
   write-control-meant rc v =
       by-test (controlListed rc) (λ h. record { outcome = rw h; leaves = rw h; fits = λ f. rw h tt }) (λ h. record { outcome = rw h; leaves = rw h; fits = λ f. rw h tt })
 
@@ -151,10 +151,10 @@ csr-fits b =
 
 pub debug-meant : (n v a : ℕ) (s : Scene) → (lookedUp n debugRows ≡ Unknown → ⊥)
     → Meant (lookedUp n debugRows) a v NoResult s (meaning (Wdmreg n v) s)
-unfolding withDebugWritten
+unfolding debugWritten
 debug-meant n v a s known =
-    found-has (λ k c. Meant c a v NoResult s (meaning (Wdmreg k v) s)) n debugRows
+    found-has (λ k c. Meant c a v NoResult s (ends Complete (boardAfter c (s .board) 0 v) s)) n debugRows
     (written Csr, (written Baar, (written Aatr, (written Tdr, (written Pbr, (written Pbmr, (written Abhr, (written Ablr, (written Dbr, (written Dbmr, tt)))))))))) known
   where
-    written : (r : DebugRegister) → Meant (command.wdmreg r) a v NoResult s (meaning (Wdmreg (debugNumber r) v) s)
+    written : (r : DebugRegister) → Meant (command.wdmreg r) a v NoResult s (ends Complete (debugWritten (s .board) r v) s)
     written r = record { outcome = refl; leaves = refl; fits = λ f. tt }

@@ -10,7 +10,7 @@ use borrow.Author.Tests.{leb-true}
 use Rattle.memory.specs.declared.Size.{Size}
 use Rattle.memory.specs.declared.Size.the-variants.{Byte, Word, Long}
 use Rattle.memory.specs.Memory.{bytes, aligned, present, wordAt, valueAt, putWord, putAt}
-use Rattle.memory.specs.MemoryLaws.{limit}
+use Rattle.memory.specs.MemoryLaws.{limit, put-keeps-length}
 use Rattle.requests.specs.declared.Request.the-variants.{Read, Write}
 use Rattle.requests.specs.declared.Outcome.the-variants.{Value, Complete}
 use Rattle.requests.specs.Request.{dataInRange, inRange}
@@ -50,11 +50,6 @@ data-within Byte v h = omega (arith, leb-true v 0xFF h)
 data-within Word v h = omega (arith, leb-true v 0xFFFF h)
 data-within Long v h = omega (arith, leb-true v 0xFFFFFFFF h)
 
-put-keeps-length : (size : Size) (m : List ℕ) (at v : ℕ) → length (putAt m size at v) ≡ length m
-put-keeps-length Byte m at v = simp length-set
-put-keeps-length Word m at v = simp length-set
-put-keeps-length Long m at v = simp length-set
-
 -- ---- as requests mean
 pub record WrittenAndRead (size : Size) (address value : ℕ) (s : Scene) : Type 0 where
   -- the WRITE completes
@@ -71,5 +66,5 @@ write-then-read size address value s h there =
     let fits = data-within size value (and-right (dataInRange Long address) (dataInRange size value) h) in
     record {
       completes = rw there;
-      reads = rw (there, put-keeps-length size m at value, there) (ap Value (stored-is-fetched size m at value room fits));
+      reads = rw (there, put-keeps-length m size at value, there) (ap Value (stored-is-fetched size m at value room fits));
     }
