@@ -1,79 +1,69 @@
 -- Laws of the exchange in code: brought to rest, sent and read, it answers as promised.
 use Prim.Native.Nat.{ℕ, _+_, _≤_}
 use native.Mathlib.Omega.{arith}
-use mathlib.Core.Path.{_≡_, refl, ap, _∙_}
-use mathlib.Core.Bool.{Bool, true, false}
-use mathlib.Core.List.{List, [], _∷_}
+use mathlib.Core.Path.{_≡_, ap, _∙_}
+use mathlib.Core.Bool.{true}
+use mathlib.Core.List.{[], _∷_}
 use lib.Dec.{leb}
 use lib.ListN.{length}
 use borrow.Author.Tests.{leb-true}
 use Rattle.grounds.specs.declared.Ground.the-variants.{MemoryTooLong, StateOutOfRange, RequestOutOfRange}
 use Rattle.grounds.specs.declared.Verdict.the-variants.{Accepted}
-use Rattle.grounds.specs.Grounds.{check, judge}
-use Rattle.board.specs.declared.Board.{Board}
-use Rattle.board.specs.declared.Place.{Place}
+use Rattle.grounds.specs.Grounds.{check}
+use Rattle.grounds.specs.GroundLaws.{accepted-holds}
 use Rattle.board.specs.Board.{atRest}
 use Rattle.board.specs.Ranges.{inRange as stateInRange}
-use Rattle.port.specs.Run.{State, stateOf}
-use Rattle.port.specs.Sound.{Sound}
+use Rattle.board.specs.State.{State}
+use Rattle.sound.specs.Sound.{Sound}
 use Rattle.requests.specs.declared.Request.{Request}
 use Rattle.requests.specs.declared.Reader.{Reader}
-use Rattle.requests.specs.declared.Reader.the-variants.{Closed}
 use Rattle.requests.specs.Request.{inRange}
-use Rattle.trip.specs.Exchange.{rested, restNops, restBudget, Talk, talk, exchanged, outcomeThere, stateThere, packetsThere}
+use Rattle.trip.specs.Exchange.{rested, restBudget, restScene, restPackets, Talk, talk, exchanged, stateThere}
 use Rattle.trip.specs.RestLaws.{comes-to-rest, rest-keeps-sound, rest-nops-bound}
-use Rattle.trip.specs.ExchangeLaws.{exchange-comes-to, packets-bound}
-use Rattle.exchange.specs.declared.Exchanged.the-variants.{Ended}
-use Rattle.exchange.specs.Exchange.{answerOf, exchangeVerdict}
-use Rattle.exchange.specs.Promise.{restScene, restPackets}
+use Rattle.trip.specs.ExchangeLaws.{exchange-from-anywhere, packets-bound}
+use Rattle.exchange.specs.Exchange.{exchangeVerdict, endedThere}
+use Rattle.exchange.specs.ExchangeMirror.{answerOf}
 
 -- ---- accepted
-pub record Within (request : Request) (b : Board) (p : Place) (m : List ℕ) : Type 0 where
+pub record Within (request : Request) (s : State) : Type 0 where
   pub asked : inRange request ≡ true
-  pub state : stateInRange b p ≡ true
-  pub memory : length m ≤ 65536
+  pub state : stateInRange (s .board) (s .place) ≡ true
+  pub memory : length (s .memory) ≤ 65536
 
-pub accepted-is-within : (request : Request) (b : Board) (p : Place) (m : List ℕ) → exchangeVerdict request b p m ≡ Accepted → Within request b p m
+pub accepted-is-within : (request : Request) (s : State) → exchangeVerdict request s ≡ Accepted → Within request s
 unfolding exchangeVerdict
-accepted-is-within request b p m e =
-    let all = each (inRange request) (stateInRange b p) (leb (length m) 65536) e in
-    record { asked = all .0; state = all .1; memory = leb-true (length m) 65536 (all .2) }
-  where
-    each : (t u v : Bool) → judge (check t RequestOutOfRange ∷ check u StateOutOfRange ∷ check v MemoryTooLong ∷ []) ≡ Accepted → (t ≡ true) × (u ≡ true) × (v ≡ true)
-    each true true true e = (refl, refl, refl)
-    each true true false e = (cc, cc, cc)
-    each true false v e = (cc, cc, cc)
-    each false u v e = (cc, cc, cc)
+accepted-is-within request s e =
+    let three = check (leb (length (s .memory)) 65536) MemoryTooLong ∷ [] in
+    let twelve = check (stateInRange (s .board) (s .place)) StateOutOfRange ∷ three in
+    let past-13 = accepted-holds (inRange request) RequestOutOfRange twelve e in
+    let past-12 = accepted-holds (stateInRange (s .board) (s .place)) StateOutOfRange three (past-13 .1) in
+    let past-3 = accepted-holds (leb (length (s .memory)) 65536) MemoryTooLong [] (past-12 .1) in
+    record { asked = past-13 .0; state = past-12 .0; memory = leb-true (length (s .memory)) 65536 (past-3 .0) }
 
 -- ---- at rest
-pub record AtRest (s start : State) : Type 0 where
+pub record AtRest (s : State) : Type 0 where
   pub sound : Sound s
   pub rest : atRest (s .place .phase) ≡ true
 
-pub rested-is-at-rest : {s start : State} → Sound start → s ≡ rested restBudget start → AtRest s start
-rested-is-at-rest {s} {start} f e = record { sound = rw e (rest-keeps-sound restBudget start f); rest = ap (λ (x : State). atRest (x .place .phase)) e ∙ comes-to-rest f }
+pub rested-is-at-rest : {s start : State} → Sound start → s ≡ rested restBudget start → AtRest s
+rested-is-at-rest {start = start} f e = rw e (record { sound = rest-keeps-sound restBudget start f; rest = comes-to-rest f })
 
 -- ---- sent and read
-pub record Conversed (request : Request) (b : Board) (p : Place) (m : List ℕ) (nops : ℕ) (reader : Reader) (s : State) (packets : ℕ) : Type 0 where
-  pub answer : answerOf reader (nops + packets) ≡ Ended (outcomeThere request (restScene b p m)) (restPackets b p m + packetsThere request (restScene b p m))
-  pub state : s ≡ stateThere request (restScene b p m)
+pub record Conversed (request : Request) (start : State) (nops : ℕ) (reader : Reader) (s : State) (packets : ℕ) : Type 0 where
+  pub answer : answerOf reader (nops + packets) ≡ endedThere request start
+  pub state : s ≡ stateThere request (restScene start)
   pub few : packets ≤ 22
   pub fewNops : nops ≤ restBudget
 
-pub conversed : {request : Request} {b : Board} {p : Place} {m : List ℕ} {nops : ℕ} {reader : Reader} {start s : State} {packets : ℕ}
-    → Sound (stateOf b p m) → inRange request ≡ true
-    → start ≡ rested restBudget (stateOf b p m) → nops ≡ restNops restBudget (stateOf b p m)
-    → talk reader s packets ≡ exchanged request start
-    → Conversed request b p m nops reader s packets
-conversed {request} {b} {p} {m} {nops} {reader} {start} {s} {packets} f h rest count talked =
-    let there = restScene b p m in
-    let sound = rest-keeps-sound restBudget (stateOf b p m) f in
-    let whole : talk reader s packets ≡ talk (Closed (outcomeThere request there)) (stateThere request there) (packetsThere request there) =
-    talked ∙ ap (exchanged request) rest ∙ exchange-comes-to request h sound (comes-to-rest f) in
-    let number : packets ≡ packetsThere request there = ap (λ (t : Talk). t .packets) whole in
+pub conversed : {request : Request} {start : State} {nops : ℕ} {reader : Reader} {rest s : State} {packets : ℕ} → Sound start → inRange request ≡ true
+    → rest ≡ rested restBudget start → nops ≡ restPackets start → talk reader s packets ≡ exchanged request rest
+    → Conversed request start nops reader s packets
+conversed {request} {start} {nops} f h rests count talked =
+    let there = restScene start in
+    let whole = talked ∙ ap (exchanged request) rests ∙ exchange-from-anywhere request h f in
     record {
-      answer = ap (λ (t : Talk). answerOf (t .reader) (nops + t .packets)) whole ∙ ap (λ n. Ended (outcomeThere request there) (n + packetsThere request there)) count;
+      answer = ap (λ (t : Talk). answerOf (t .reader) (nops + t .packets)) whole ∙ rw count;
       state = ap (λ (t : Talk). t .state) whole;
-      few = rw number (packets-bound request there (sound .board .setting));
-      fewNops = rw count (omega (arith, rest-nops-bound restBudget f, f .board .setting));
+      few = rw (ap (λ (t : Talk). t .packets) whole) (packets-bound request there (rest-keeps-sound restBudget start f .board .small));
+      fewNops = rw count (omega (arith, rest-nops-bound restBudget f, f .board .small));
     }

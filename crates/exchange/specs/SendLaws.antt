@@ -6,16 +6,12 @@ use mathlib.Core.Bool.{Bool, true, false, not}
 use mathlib.Core.List.{List, [], _∷_, _++_}
 use lib.ListN.{length, getD, drop, replicate}
 use borrow.Author.Tests.{le-leb}
-use Rattle.board.specs.declared.Board.{Board}
-use Rattle.board.specs.declared.Place.{Place}
+use Rattle.board.specs.State.{State}
 use Rattle.port.specs.declared.Answer.{Answer}
-use Rattle.port.specs.Packets.{replyNow, said}
-use Rattle.port.specs.Promise.{PacketMeets}
-use Rattle.port.specs.PacketLaws.{accepted-takes-its-step, no-other}
-use Rattle.port.specs.Run.{stateOf, stepped}
-use Rattle.port.specs.RunLaws.{stepped-by}
-use Rattle.port.specs.Sound.{Sound}
-use Rattle.port.specs.SoundLaws.{sound-is-in-range}
+use Rattle.port.specs.Packet.{PacketMeets}
+use Rattle.port.specs.PacketLaws.{Stepped, accepted-takes-its-step, no-other}
+use Rattle.sound.specs.Sound.{Sound}
+use Rattle.sound.specs.SoundLaws.{sound-is-in-range}
 use Rattle.requests.specs.declared.Request.{Request}
 use Rattle.requests.specs.declared.Built.{Built}
 use Rattle.requests.specs.Request.{inRange}
@@ -23,16 +19,10 @@ use Rattle.requests.specs.Words.{builtWords}
 use Rattle.requests.specs.CountLaws.{word-count-bound}
 use Rattle.requests.specs.Building.{BuildingMeets}
 
-pub record Sending (b : Board) (p : Place) (m : List ℕ) (word : ℕ) (r : Answer) (after : List ℕ) : Type 0 where
-  pub unrefused : said (r .outcome) .refusal .number ≡ 0
-  pub reply : said (r .outcome) .reply ≡ replyNow p
-  pub state : stateOf (r .board) (r .place) after ≡ stepped (stateOf b p m) word
-
 -- a word with C clear, from a state within all ranges
-pub sound-is-sent : {b : Board} {p : Place} {m : List ℕ} {word : ℕ} {r : Answer} {after : List ℕ} → Sound (stateOf b p m) → word ≤ 0xFFFF → PacketMeets b p m word r after → Sending b p m word r after
-sound-is-sent {b} {p} {m} {word} f clear met =
-    let step = accepted-takes-its-step met (no-other b p m word (sound-is-in-range b p (f .board) (f .place)) (f .memory .limit) (omega arith)) in
-    record { unrefused = step .unrefused; reply = step .reply; state = stepped-by b p m word (step .board) (step .place) (step .memory) }
+pub sound-is-sent : {s : State} {word : ℕ} {r : Answer} {after : List ℕ} → Sound s → word ≤ 0xFFFF → PacketMeets s word r after → Stepped s word r after
+sound-is-sent {s} {word} f clear met =
+    accepted-takes-its-step met (no-other s word (sound-is-in-range (s .board .w) (s .board) (s .place) (f .board) (f .place)) (f .memory .limit) (omega arith))
 
 -- ---- a test turned round
 pub not-so : (t : Bool) → not t ≡ true → t ≡ false

@@ -13,7 +13,7 @@ use Rattle.sound.specs.Sound.{Sound}
 use Rattle.sound.specs.SoundLaws.{packet-keeps-board, packet-keeps-sound}
 use Rattle.rest.specs.ToGoLaws.{toGo, to-go-at-most, none-to-go, some-to-go}
 use Rattle.rest.specs.NopLaws.{nop-takes-one-off}
-use Rattle.trip.specs.Exchange.{nops, resting, sceneOf, rested, restNops, restBudget}
+use Rattle.trip.specs.Exchange.{nops, resting, sceneOf, rested, restNops, restBudget, restPackets}
 use Rattle.laws.specs.Tests.{by-test}
 
 nop-leaves : {s : State} → Sound s → toGo (stepped s 0 .board .w) (stepped s 0 .place .phase) ≤ toGo (s .board .w) (s .place .phase) - 1
@@ -54,6 +54,9 @@ pub rest-is-nops : (k : ℕ) (s : State) → rested k s ≡ ran (nops (restNops 
 unfolding rested restNops ran
 rest-is-nops zero s = refl
 rest-is-nops (suc k) s = by-test (atRest (s .place .phase)) (λ t. rw t) (λ t. rw t (rest-is-nops k (stepped s 0)))
+
+pub rest-packets-are-nops : (s : State) → rested restBudget s ≡ ran (nops (restPackets s)) s
+rest-packets-are-nops s = rest-is-nops restBudget s
 
 -- a place at rest is known by its scene and the reply it holds
 pub rest-is-resting : (s : State) → atRest (s .place .phase) ≡ true → s ≡ resting (sceneOf s) (s .place .next)

@@ -4,7 +4,7 @@ use mathlib.Core.Path.{_≡_, refl, sym, _∙_}
 use native.Mathlib.Omega.{arith}
 use borrow.Author.Needs.{needs}
 use lib.ListN.{length}
-use Rattle.port.specs.Run.{stateOf}
+use Rattle.board.specs.State.{stateOf}
 use Rattle.trip.specs.Exchange.{restBudget}
 use Rattle.trip.specs.Underway.{RestUnderway, rest-begins, rest-goes-on, rest-is-reached}
 use Rattle.exchange.proofs.talk.bring_to_rest.Statement.{statement}

@@ -1,6 +1,7 @@
 use mathlib.Core.Path.{ap, _∙_}
-use Rattle.port.specs.Run.{stateOf, stepped}
-use Rattle.port.specs.SoundLaws.{packet-keeps-sound}
+use Rattle.board.specs.State.{stateOf}
+use Rattle.step.specs.Step.{stepped}
+use Rattle.sound.specs.SoundLaws.{packet-keeps-sound}
 use Rattle.requests.specs.Words.{commandWord}
 use Rattle.trip.specs.Exchange.{exchanged}
 use Rattle.trip.specs.Underway.{fromCommand, sent-clear, exchange-closes}

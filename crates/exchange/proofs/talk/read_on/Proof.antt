@@ -3,7 +3,8 @@ use mathlib.Core.Path.{_≡_, refl, sym, ap, _∙_}
 use native.Mathlib.Omega.{arith}
 use borrow.Author.Needs.{needs}
 use lib.ListN.{length}
-use Rattle.port.specs.Run.{stateOf, stepped}
+use Rattle.board.specs.State.{stateOf}
+use Rattle.step.specs.Step.{stepped}
 use Rattle.trip.specs.Exchange.{talkBudget}
 use Rattle.trip.specs.Underway.{TalkUnderway, talk-begins, talk-goes-on, talk-is-closed, sent-clear}
 use Rattle.exchange.specs.SendLaws.{not-so, so-after-all}
