@@ -11,7 +11,7 @@ use Rattle.board.specs.declared.Place.{Place}
 use Rattle.board.specs.Board.{freshBoard, freshPlace, makingVerdict}
 use Rattle.port.specs.Packets.{packetVerdict, boardNext, placeNext, memoryNext, unless}
 use Rattle.trigger.specs.declared.Event.{Event}
-use Rattle.trigger.specs.declared.Bus.the-variants.{Idle, Carries}
+use Rattle.groups.specs.declared.Bus.the-variants.{Idle, Carries}
 use Rattle.bus.specs.Events.{boardAfterEvent, boardAfterBreakpoint}
 use Rattle.lines.specs.declared.BoardLine.{BoardLine}
 use Rattle.lines.specs.declared.BoardLine.the-variants.{Nothing, Make, Memory, Bytes, Packet, Event as EventLine, EventWithAccess, Breakpoint, Peek, State, Unclear}

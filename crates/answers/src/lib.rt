@@ -1,12 +1,12 @@
 // The bench around the board: its lines answered, as the desk's language has them for stand_in and talk.
 use board::Board;
 use board::Place;
+use comparators::BusAccess;
 use grounds::Verdict;
+use groups::Bus;
 use lines::BoardLine;
 use text::request::put_refusal;
 use text::request::put_unclear;
-use trigger::Access;
-use trigger::Bus;
 use trigger::Event;
 ghost use Prim.Native.Nat.{_+_, _*_, min};
 ghost use mathlib.Core.Path.{_≡_};
@@ -256,7 +256,7 @@ fn carrying(pc: u32, address: u32, attribute: u32, lanes: u32) -> Event
 {
     Event {
         pc: pc,
-        bus: Bus::Carries(Access {
+        bus: Bus::Carries(BusAccess {
             address: address,
             attribute: (attribute % 256) as u8,
             lanes: lanes,

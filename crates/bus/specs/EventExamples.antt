@@ -17,10 +17,12 @@ use Rattle.board.specs.Setters.{withStatus, withHalted, withTrg, withBstat}
 use Rattle.registers.specs.Csr.{csrValue}
 use Rattle.registers.specs.Registers.{boardAfter, debugLoaded, debugWritten}
 use Rattle.trigger.specs.declared.Event.{Event}
-use Rattle.trigger.specs.declared.Bus.the-variants.{Idle, Carries}
-use Rattle.trigger.specs.Masks.{agree}
+use Rattle.groups.specs.declared.Bus.the-variants.{Idle, Carries}
+use Rattle.comparators.specs.Masks.{agree}
 use Rattle.trigger.specs.Levels.{levelOf}
-use Rattle.trigger.specs.Groups.{pcGroup, addressMatches, attributeAgrees, dataEnabled, addressGroup, joined, fires, firedLevel}
+use Rattle.comparators.specs.Comparators.{dataEnabled}
+use Rattle.groups.specs.Groups.{pcGroup, addressMatches, attributeAgrees, addressGroup, joined}
+use Rattle.trigger.specs.Fired.{fires, firedLevel}
 use Rattle.bus.specs.Firing.{bstatAfter, responds, firing, seen, statusAfter}
 use Rattle.bus.specs.EventAnswers.{EventTold, toldEvent}
 use Rattle.bus.specs.Events.{eventVerdict, eventOutcome, boardAfterEvent}

@@ -15,7 +15,7 @@ use Rattle.board.specs.Ranges.{bstatInRange, boardInRange, placeInRange, inRang
 use Rattle.board.specs.Setters.{withStatus}
 use Rattle.trigger.specs.declared.Event.{Event}
 use Rattle.trigger.specs.Levels.{levelTwo}
-use Rattle.trigger.specs.Groups.{firedLevel}
+use Rattle.trigger.specs.Fired.{firedLevel}
 use Rattle.bus.specs.Firing.{bstatAfter, firing, statusAfter}
 use Rattle.bus.specs.Breakpoint.{pressed, statusPressed}
 use Rattle.bus.specs.Events.{eventVerdict, breakpointVerdict, boardAfterEvent, boardAfterBreakpoint}

@@ -12,10 +12,10 @@ use Rattle.board.specs.declared.Board.{Board}
 use Rattle.board.specs.declared.Place.{Place}
 use Rattle.board.specs.Ranges.{inRange}
 use Rattle.board.specs.Setters.{withStatus}
-use Rattle.trigger.specs.declared.Bus.{Bus}
-use Rattle.trigger.specs.declared.Bus.the-variants.{Idle, Carries}
+use Rattle.groups.specs.declared.Bus.{Bus}
+use Rattle.groups.specs.declared.Bus.the-variants.{Idle, Carries}
 use Rattle.trigger.specs.declared.Event.{Event}
-use Rattle.trigger.specs.Lanes.{sizeField}
+use Rattle.comparators.specs.Lanes.{sizeField}
 use Rattle.bus.specs.declared.Seen.{Seen}
 use Rattle.bus.specs.declared.Pressed.{Pressed}
 use Rattle.bus.specs.declared.EventOutcome as events

@@ -6,9 +6,9 @@ use Rattle.board.specs.declared.Status.{Status}
 use Rattle.board.specs.declared.Debug.{Debug}
 use Rattle.board.specs.Setters.{withHalted, withTrg, withBstat, withSync}
 use Rattle.trigger.specs.declared.Event.{Event}
-use Rattle.trigger.specs.Masks.{bit}
+use Rattle.comparators.specs.Masks.{bit}
 use Rattle.trigger.specs.Levels.{levelTwo}
-use Rattle.trigger.specs.Groups.{firedLevel}
+use Rattle.trigger.specs.Fired.{firedLevel}
 use Rattle.bus.specs.declared.Captured.{Captured}
 use Rattle.bus.specs.declared.Captured.the-variants.{Nothing, Pc}
 use Rattle.bus.specs.declared.Firing.{Firing}

@@ -11,7 +11,7 @@ use board::Place;
 use board::Status;
 use grounds::Ground;
 use grounds::Verdict;
-use trigger::Bus;
+use groups::Bus;
 use trigger::Event;
 
 fn bstat_after(level: u32, tdr: u32, bstat: u32) -> u32
@@ -102,7 +102,7 @@ fn is_reserved(bus: Bus) -> bool
 {
     match bus {
         Bus::Idle => false,
-        Bus::Carries(access) => trigger::lanes::size_field(access) == 3,
+        Bus::Carries(access) => comparators::lanes::size_field(access) == 3,
     }
 }
 

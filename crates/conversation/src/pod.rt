@@ -1,6 +1,6 @@
 // The pod's half: requests built and replies read (the desk's language, `pod`).
+use building::Built;
 use lines::PodLine;
-use requests::Built;
 use requests::Request;
 use text::request::put_reading;
 use text::request::put_refusal;
@@ -9,7 +9,7 @@ use text::request::put_words;
 
 fn build(request: Request, text: &mut [u8]) -> usize {
     let mut buffer = [0u32; 5];
-    match requests::build(request, &mut buffer) {
+    match building::build(request, &mut buffer) {
         Built::Words(count) => {
             if count <= 5 {
                 return put_words(text, &buffer[..count]);
@@ -23,7 +23,7 @@ fn build(request: Request, text: &mut [u8]) -> usize {
 // What so many replies, those at the front, bring.
 fn read(request: Request, replies: &[u32], count: usize, text: &mut [u8]) -> usize {
     if count <= replies.len() {
-        return put_reading(text, requests::read(request, &replies[..count]));
+        return put_reading(text, readings::read(request, &replies[..count]));
     }
     0
 }

@@ -17,7 +17,7 @@ use Rattle.sound.specs.Sound.{Sound}
 use Rattle.sound.specs.SoundLaws.{sound-is-in-range}
 use Rattle.requests.specs.declared.Request.{Request}
 use Rattle.requests.specs.declared.Request.the-variants.{Read, Write}
-use Rattle.requests.specs.declared.Outcome.the-variants.{Value}
+use Rattle.readings.specs.declared.Outcome.the-variants.{Value}
 use Rattle.requests.specs.Request.{dataInRange, inRange}
 use Rattle.trip.specs.Meaning.{Scene, meaning}
 use Rattle.trip.specs.Exchange.{resting, sceneOf, restBudget, restScene, restPackets, legalThere, stateThere, packetsThere}

@@ -16,7 +16,7 @@ use Rattle.board.specs.Ranges.{inRange as stateInRange}
 use Rattle.board.specs.State.{State}
 use Rattle.sound.specs.Sound.{Sound}
 use Rattle.requests.specs.declared.Request.{Request}
-use Rattle.requests.specs.declared.Reader.{Reader}
+use Rattle.readings.specs.declared.Reader.{Reader}
 use Rattle.requests.specs.Request.{inRange}
 use Rattle.trip.specs.Exchange.{rested, restBudget, restScene, restPackets, Talk, talk, exchanged, stateThere}
 use Rattle.trip.specs.RestLaws.{comes-to-rest, rest-keeps-sound, rest-nops-bound}

@@ -13,7 +13,7 @@ use Rattle.board.specs.Ranges.{inRange as stateInRange}
 use Rattle.board.specs.State.{State, stateOf}
 use Rattle.requests.specs.declared.Request.{Request}
 use Rattle.requests.specs.Request.{inRange}
-use Rattle.requests.specs.Reading.{outcomeReply, outcomeValue}
+use Rattle.readings.specs.Reading.{outcomeReply, outcomeValue}
 use Rattle.trip.specs.Exchange.{restScene, restPackets, outcomeThere, stateThere, packetsThere}
 use Rattle.exchange.specs.declared.Exchanged.{Exchanged}
 use Rattle.exchange.specs.declared.Exchanged.the-variants.{Ended, Refused as RefusedToExchange}

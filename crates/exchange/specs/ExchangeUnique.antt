@@ -8,8 +8,8 @@ use Rattle.grounds.specs.GroundLaws.{same-number-same-ground, number-is-not-zer
 use Rattle.command.specs.Reply.{complete, busError, illegal}
 use Rattle.board.specs.State.{State}
 use Rattle.requests.specs.declared.Request.{Request}
-use Rattle.requests.specs.declared.Outcome.{Outcome}
-use Rattle.requests.specs.declared.Outcome.the-variants.{Value, Complete, BusError, Illegal}
+use Rattle.readings.specs.declared.Outcome.{Outcome}
+use Rattle.readings.specs.declared.Outcome.the-variants.{Value, Complete, BusError, Illegal}
 use Rattle.exchange.specs.declared.Exchanged.{Exchanged}
 use Rattle.exchange.specs.declared.Exchanged.the-variants.{Ended, Refused}
 use Rattle.exchange.specs.declared.Returned.{Returned}

@@ -13,11 +13,11 @@ use Rattle.port.specs.PacketLaws.{Stepped, accepted-takes-its-step, no-other}
 use Rattle.sound.specs.Sound.{Sound}
 use Rattle.sound.specs.SoundLaws.{sound-is-in-range}
 use Rattle.requests.specs.declared.Request.{Request}
-use Rattle.requests.specs.declared.Built.{Built}
+use Rattle.building.specs.declared.Built.{Built}
 use Rattle.requests.specs.Request.{inRange}
-use Rattle.requests.specs.Words.{builtWords}
-use Rattle.requests.specs.CountLaws.{word-count-bound}
-use Rattle.requests.specs.Building.{BuildingMeets}
+use Rattle.building.specs.RequestWords.{builtWords}
+use Rattle.pod_laws.specs.RequestCountLaws.{word-count-bound}
+use Rattle.building.specs.Building.{BuildingMeets}
 
 -- a word with C clear, from a state within all ranges
 pub sound-is-sent : {s : State} {word : ℕ} {r : Answer} {after : List ℕ} → Sound s → word ≤ 0xFFFF → PacketMeets s word r after → Stepped s word r after

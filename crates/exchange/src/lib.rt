@@ -12,8 +12,8 @@ use board::Phase;
 use board::Place;
 use grounds::Ground;
 use grounds::Verdict;
-use requests::Outcome;
-use requests::Reader;
+use readings::Outcome;
+use readings::Reader;
 use requests::Request;
 
 mod talk;

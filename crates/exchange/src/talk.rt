@@ -8,14 +8,14 @@ ghost use Rattle.board.specs.State.{stateOf};
 ghost use Rattle.step.specs.Step.{replyNow, stepped};
 ghost use Rattle.sound.specs.Sound.{Sound};
 ghost use Rattle.requests.specs.Request.{inRange};
-ghost use Rattle.requests.specs.Words.{builtWords};
-ghost use Rattle.requests.specs.Replies.{done};
+ghost use Rattle.building.specs.RequestWords.{builtWords};
+ghost use Rattle.readings.specs.Reader.{done};
 ghost use Rattle.trip.specs.Exchange.{rested, restNops, restBudget, talk, exchanged};
 ghost use Rattle.trip.specs.Underway.{fromCommand};
 use board::Board;
 use board::Phase;
 use board::Place;
-use requests::Reader;
+use readings::Reader;
 use requests::Request;
 
 // A packet sent: its reply, and what it leaves.
@@ -118,10 +118,10 @@ fn read_on(request: Request, words: &[u32], board: Board, place: Place, memory: 
     let mut packets = 1;
     let mut b = board;
     let mut p = place;
-    while !requests::is_done(reader) {
+    while !readings::is_done(reader) {
         let word = word_at(words, packets);
         let sent = send(b, p, memory, word);
-        reader = requests::feed(requests::kind_of(request), reader, sent.reply);
+        reader = readings::take_reply(requests::kind_of(request), reader, sent.reply);
         b = sent.board;
         p = sent.place;
         packets += 1;
@@ -140,7 +140,7 @@ pub fn converse(request: Request, board: Board, place: Place, memory: &mut [u8])
         ≡ exchanged request (stateOf board place (now (memory .entry))) ⌝ }
 {
     let mut words = [0u32; 5];
-    requests::build(request, &mut words);
+    building::build(request, &mut words);
     let command_word = words[0];
     // Its reply belongs to what came before, and is not read.
     let sent = send(board, place, memory, command_word);

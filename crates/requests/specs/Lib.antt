@@ -1,13 +1,1 @@
 pub mod Request
-pub mod Words
-pub mod Building
-pub mod Replies
-pub mod Reading
-pub mod Meant
-pub mod WordLaws
-pub mod MeantLaws
-pub mod CountLaws
-pub mod FedLaws
-pub mod ReaderLaws
-pub mod NotYetLaws
-pub mod Shown

@@ -4,6 +4,7 @@ use mathlib.Core.Bool.{Bool, true, _&&_}
 use lib.Dec.{leb}
 use Rattle.memory.specs.declared.Size.{Size}
 use Rattle.memory.specs.declared.Size.the-variants.{Byte, Word, Long}
+use Rattle.command.specs.Command.{sizeWords}
 use Rattle.requests.specs.declared.Request.{Request}
 use Rattle.requests.specs.declared.Request.the-variants.{Rdreg, Wdreg, Read, Write, Dump, Fill, Go, Nop, SyncPc, Rcreg, Wcreg, Rdmreg, Wdmreg}
 use Rattle.requests.specs.declared.ResultKind.{ResultKind}
@@ -46,3 +47,8 @@ kindOf (Rcreg rc) = OfSize Long
 kindOf (Wcreg rc value) = NoResult
 kindOf (Rdmreg n) = OfSize Long
 kindOf (Wdmreg n value) = NoResult
+
+-- .. and how many words that is; none with "complete"
+abbrev pub kindWords : ResultKind → ℕ
+kindWords NoResult = 0
+kindWords (OfSize size) = sizeWords size

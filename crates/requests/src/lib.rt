@@ -1,16 +1,7 @@
-// The pod's half (01, "What the desk checks by eye"): requests, their ranges, and what their replies may bring.
+// The pod's half (01, "What the desk checks by eye"): requests, their ranges, and the result that each asks for.
 ghost use mathlib.Core.Path.{_≡_};
 ghost use Rattle.requests.specs.Request.{dataInRange, inRange, kindOf};
-use grounds::Ground;
 use memory::Size;
-
-mod replies;
-mod words;
-
-pub use replies::feed;
-pub use replies::is_done;
-pub use replies::read;
-pub use words::build;
 
 // A command of the table with its fields: a register, Rc or n first, or the size and the address, and then the data.
 pub enum Request {
@@ -33,37 +24,6 @@ pub enum Request {
 pub enum ResultKind {
     NoResult,
     OfSize(Size),
-}
-
-// What the closing reply brings.
-pub enum Outcome {
-    Value(u32),
-    Complete,
-    BusError,
-    Illegal,
-}
-
-// What one reads with, from reply to reply.
-pub enum Reader {
-    // The first result word is still to come.
-    First,
-    // The upper result word is in.
-    Second(u16),
-    Closed(Outcome),
-    Bad(Ground),
-}
-
-// What reading answers, with the words used.
-pub enum Reading {
-    Ended(Outcome, usize),
-    NotYet(usize),
-    Refused(Ground),
-}
-
-// What building answers: the words now at the front of the buffer.
-pub enum Built {
-    Words(usize),
-    Refused(Ground),
 }
 
 fn is_data(size: Size, value: u32) -> bool

@@ -4,8 +4,8 @@ use crate::put_decimal;
 use crate::put_hex;
 use crate::put_text;
 use grounds::Ground;
-use requests::Outcome;
-use requests::Reading;
+use readings::Outcome;
+use readings::Reading;
 
 pub fn put_unclear(text: &mut [u8]) -> usize {
     put_text(text, 0, b"unclear")

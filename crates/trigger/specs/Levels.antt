@@ -1,8 +1,8 @@
 -- Events and firing (01): the two levels of TDR.
 use Prim.Native.Nat.{ℕ, _/_, _^_}
 use mathlib.Core.Bool.{Bool}
-use Rattle.trigger.specs.declared.Level.{Level}
-use Rattle.trigger.specs.Masks.{bit}
+use Rattle.comparators.specs.declared.Level.{Level}
+use Rattle.comparators.specs.Masks.{bit}
 
 -- "from bit 13 to 0: EBL, EDLW, EDWL, EDWU, EDLL, EDLM, EDUM, EDUU, DI, EAI, EAR, EAL, EPC, PCI"
 unfoldable pub levelOf : ℕ → Bool → Level

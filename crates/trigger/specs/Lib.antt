@@ -1,6 +1,2 @@
-pub mod Masks
-pub mod MaskLaws
-pub mod Lanes
 pub mod Levels
-pub mod Groups
-pub mod ComparatorLaws
+pub mod Fired

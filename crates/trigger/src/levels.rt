@@ -1,8 +1,16 @@
 // The two levels of TDR (01, "Events and firing").
 ghost use mathlib.Core.Path.{_≡_};
+ghost use Prim.Native.Nat.{_<_};
+ghost use Rattle.comparators.specs.Masks.{bit};
 ghost use Rattle.trigger.specs.Levels.{levelOf, levelOne, levelTwo};
-use crate::Level;
-use crate::mask::is_set;
+use comparators::Level;
+
+fn is_set(bits: u32, k: u32) -> bool
+    requires { ⌜ k < 32 ⌝ }
+    ensures { λ r. ⌜ r ≡ bit k bits ⌝ }
+{
+    (bits >> k) % 2 == 1
+}
 
 fn level_of(bits: u32, t: bool) -> Level
     ensures { λ r. ⌜ r ≡ levelOf bits t ⌝ }

@@ -1,53 +1,16 @@
-// When a trigger level fires (01, "Events and firing").
+// When a level of TDR fires (01, "Events and firing").
 ghost use mathlib.Core.Path.{_≡_};
-ghost use Rattle.trigger.specs.Groups.{fires, firedLevel};
+ghost use Rattle.trigger.specs.Fired.{fires, firedLevel};
 use board::Debug;
+use comparators::Level;
+use groups::Bus;
 
-mod groups;
-pub mod lanes;
 pub mod levels;
-mod mask;
-
-// The attribute is laid out as AATR's low byte.
-pub struct Access {
-    pub address: u32,
-    pub attribute: u8,
-    pub lanes: u32,
-}
-
-pub enum Bus {
-    Idle,
-    Carries(Access),
-}
 
 // One instruction start.
 pub struct Event {
     pub pc: u32,
     pub bus: Bus,
-}
-
-// One level of TDR: its T, and its fourteen bits in the order of Table 5-14.
-pub struct Level {
-    pub t: bool,
-    pub ebl: bool,
-    pub edlw: bool,
-    pub edwl: bool,
-    pub edwu: bool,
-    pub edll: bool,
-    pub edlm: bool,
-    pub edum: bool,
-    pub eduu: bool,
-    pub di: bool,
-    pub eai: bool,
-    pub ear: bool,
-    pub eal: bool,
-    pub epc: bool,
-    pub pci: bool,
-}
-
-pub struct Group {
-    pub enabled: bool,
-    pub holds: bool,
 }
 
 fn is_fired(level: Level, debug: Debug, event: Event) -> bool

@@ -20,27 +20,27 @@ use Rattle.step.specs.Step.{replyNow, left, planFor, stepped}
 use Rattle.run.specs.Run.{ran, replies}
 use Rattle.requests.specs.declared.ResultKind.{ResultKind}
 use Rattle.requests.specs.declared.ResultKind.the-variants.{NoResult, OfSize}
-use Rattle.requests.specs.declared.Outcome.{Outcome}
-use Rattle.requests.specs.declared.Outcome.the-variants.{Value, Complete, BusError}
-use Rattle.requests.specs.declared.Reader.{Reader}
-use Rattle.requests.specs.declared.Reader.the-variants.{First, Second, Closed}
-use Rattle.requests.specs.Replies.{fed, fedAll, done, used}
-use Rattle.requests.specs.WordLaws.{Clear}
-use Rattle.requests.specs.FedLaws.{fed-byte, fed-word, fed-upper, fed-lower}
+use Rattle.readings.specs.declared.Outcome.{Outcome}
+use Rattle.readings.specs.declared.Outcome.the-variants.{Value, Complete, BusError}
+use Rattle.readings.specs.declared.Reader.{Reader}
+use Rattle.readings.specs.declared.Reader.the-variants.{First, Second, Closed}
+use Rattle.readings.specs.Reader.{afterReply, afterReplies, done, used}
+use Rattle.building.specs.RequestWordLaws.{Clear}
+use Rattle.pod_laws.specs.ReplyLaws.{after-byte, after-word, after-upper, after-lower}
 use Rattle.trip.specs.Meaning.{Scene}
 use Rattle.trip.specs.Exchange.{nops, resting, closingReplies}
 use Rattle.trip.specs.StepLaws.{under, waits-none, waits-more, due-more, operand-taken, wait-taken, nop-at-rest}
 
 pub record Closes (kind : ResultKind) (words : List ℕ) (reader : Reader) (s : State) (outcome : Outcome) (final : State) : Type 0 where
   -- the replies to the words bring the outcome
-  pub answer : fedAll kind reader (replies words s) ≡ Closed outcome
+  pub answer : afterReplies kind reader (replies words s) ≡ Closed outcome
   -- and not before the last of them
   pub all : used kind reader (replies words s) ≡ length words
   -- what the words leave
   pub state : ran words s ≡ final
 
 pub closes-on : (kind : ResultKind) (word : ℕ) (words : List ℕ) (reader : Reader) (s : State) (outcome : Outcome) (final : State) → done reader ≡ false
-    → Closes kind words (fed kind reader (replyNow (s .place))) (stepped s word) outcome final
+    → Closes kind words (afterReply kind reader (replyNow (s .place))) (stepped s word) outcome final
     → Closes kind (word ∷ words) reader s outcome final
 unfolding replies ran
 closes-on kind word words reader s outcome final more c = record { answer = c .answer; all = rw more (omega (arith, c .all)); state = c .state }
@@ -72,7 +72,7 @@ Fits (OfSize Long) (TwoWords v) = v ≤ 0xFFFFFFFF
 abbrev pub worked : Ending → Scene → State
 worked e s = stateOf (s .board) (record { phase = phaseAfter e; chain = s .chain; pointer = s .pointer; next = firstReply e }) (s .memory)
 
-last : (kind : ResultKind) (reader : Reader) (s : Scene) (reply : ℕ) (outcome : Outcome) → done reader ≡ false → fed kind reader reply ≡ Closed outcome
+last : (kind : ResultKind) (reader : Reader) (s : Scene) (reply : ℕ) (outcome : Outcome) → done reader ≡ false → afterReply kind reader reply ≡ Closed outcome
     → Closes kind (nops 1) reader (resting s reply) outcome (resting s complete)
 unfolding replies ran replyNow
 last kind reader s reply outcome more closed = record { answer = closed; all = rw more; state = nop-at-rest s reply }
@@ -89,14 +89,14 @@ told NoResult (OneWord v) s f = absurd f
 told NoResult (TwoWords v) s f = absurd f
 told (OfSize size) Completed s f = absurd f
 told (OfSize size) Failed s f = last (OfSize size) First s busError BusError refl refl
-told (OfSize Byte) (OneWord v) s f = last (OfSize Byte) First s v (Value v) refl (fed-byte v f)
-told (OfSize Word) (OneWord v) s f = last (OfSize Word) First s v (Value v) refl (fed-word v f)
+told (OfSize Byte) (OneWord v) s f = last (OfSize Byte) First s v (Value v) refl (after-byte v f)
+told (OfSize Word) (OneWord v) s f = last (OfSize Word) First s v (Value v) refl (after-word v f)
 told (OfSize Long) (OneWord v) s f = absurd f
 told (OfSize Byte) (TwoWords v) s f = absurd f
 told (OfSize Word) (TwoWords v) s f = absurd f
 told (OfSize Long) (TwoWords v) s f =
     closes-on (OfSize Long) 0 (nops 1) First (worked (TwoWords v) s) (Value v) (resting s complete) refl
-    (rw (fed-upper v f, low-leaves s v) (last (OfSize Long) (Second (v / 65536)) s (v % 65536) (Value v) refl (fed-lower (OfSize Long) v)))
+    (rw (after-upper v f, low-leaves s v) (last (OfSize Long) (Second (v / 65536)) s (v % 65536) (Value v) refl (after-lower (OfSize Long) v)))
 
 -- ---- the words before them
 -- operand words taken one after the other

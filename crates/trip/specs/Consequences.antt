@@ -11,13 +11,13 @@ use Rattle.run.specs.Run.{ran, replies}
 use Rattle.sound.specs.Sound.{Sound}
 use Rattle.sound.specs.SoundLaws.{packet-keeps-sound}
 use Rattle.requests.specs.declared.Request.{Request}
-use Rattle.requests.specs.declared.Reading.the-variants.{Ended}
-use Rattle.requests.specs.declared.Reader.the-variants.{First}
+use Rattle.readings.specs.declared.Reading.the-variants.{Ended}
+use Rattle.readings.specs.declared.Reader.the-variants.{First}
 use Rattle.requests.specs.Request.{inRange, kindOf}
-use Rattle.requests.specs.Words.{commandWord, operands, builtWords}
-use Rattle.requests.specs.Replies.{fedAll, done}
-use Rattle.requests.specs.Reading.{reading, readingOf}
-use Rattle.requests.specs.NotYetLaws.{further-replies}
+use Rattle.building.specs.RequestWords.{commandWord, operands, builtWords}
+use Rattle.readings.specs.Reader.{afterReplies, done}
+use Rattle.readings.specs.Reading.{reading, readingOf}
+use Rattle.pod_laws.specs.NotYetLaws.{further-replies}
 use Rattle.trip.specs.Meaning.{Scene, Meaning, meaning}
 use Rattle.trip.specs.Exchange.{nops, resting, legalThere, nopsAfter}
 use Rattle.trip.specs.Promise.{laterReplies}
@@ -56,7 +56,7 @@ further-nops request s next n h l z =
     let later = operands request ++ nops (nopsAfter (s .board .w) request (meaning request s .outcome)) in
     let start = stepped (resting s next) (commandWord request) in
     let trip = round-trip request s next h l z in
-    let closed : done (fedAll k First (replies later start)) ≡ true = rw (legal-closes request s next h l z .answer) in
+    let closed : done (afterReplies k First (replies later start)) ≡ true = rw (legal-closes request s next h l z .answer) in
     let read : readingOf k (replies later start) ≡ Ended (meaning request s .outcome) (suc (length later) - 1) = rw h at (trip .answer) in
     record {
       answer = rw (h, replies-append later (nops n) start) (further-replies k (replies later start) (replies (nops n) (ran later start)) closed ∙ read);

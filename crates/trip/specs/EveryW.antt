@@ -11,8 +11,8 @@ use Rattle.registers.specs.Registers.{controlListed, controlWritten, debugWritt
 use Rattle.registers.specs.ChangeLaws.{each-change}
 use Rattle.requests.specs.declared.Request.{Request}
 use Rattle.requests.specs.declared.Request.the-variants.{Rdreg, Wdreg, Read, Write, Dump, Fill, Go, Nop, SyncPc, Rcreg, Wcreg, Rdmreg, Wdmreg}
-use Rattle.requests.specs.declared.Outcome.the-variants.{Complete}
-use Rattle.requests.specs.Meant.{debugRows}
+use Rattle.readings.specs.declared.Outcome.the-variants.{Complete}
+use Rattle.pod_laws.specs.MeantCommand.{debugRows}
 use Rattle.trip.specs.Meaning.{Scene, Meaning, ends, meaning, reads, writes}
 use Rattle.trip.specs.Exchange.{legalThere}
 use Rattle.laws.specs.Tests.{by-test}

@@ -13,15 +13,14 @@ use Rattle.step.specs.Step.{replyNow, stepped}
 use Rattle.board.specs.State.{State, stateOf}
 use Rattle.requests.specs.declared.Request.{Request}
 use Rattle.requests.specs.declared.ResultKind.{ResultKind}
-use Rattle.requests.specs.declared.Outcome.{Outcome}
-use Rattle.requests.specs.declared.Outcome.the-variants.{Value, Complete, BusError, Illegal}
-use Rattle.requests.specs.declared.Reader.{Reader}
-use Rattle.requests.specs.declared.Reader.the-variants.{First}
-use Rattle.requests.specs.Request.{kindOf}
-use Rattle.requests.specs.Words.{commandWord, operands, builtWords}
-use Rattle.requests.specs.Replies.{fed, done}
-use Rattle.requests.specs.Meant.{commandOf}
-use Rattle.requests.specs.CountLaws.{kindWords}
+use Rattle.readings.specs.declared.Outcome.{Outcome}
+use Rattle.readings.specs.declared.Outcome.the-variants.{Value, Complete, BusError, Illegal}
+use Rattle.readings.specs.declared.Reader.{Reader}
+use Rattle.readings.specs.declared.Reader.the-variants.{First}
+use Rattle.requests.specs.Request.{kindOf, kindWords}
+use Rattle.building.specs.RequestWords.{commandWord, operands, builtWords}
+use Rattle.readings.specs.Reader.{afterReply, done}
+use Rattle.pod_laws.specs.MeantCommand.{commandOf}
 use Rattle.trip.specs.Meaning.{Scene, meaning}
 
 -- a NOP is the word 0
@@ -70,7 +69,7 @@ unfoldable pub talked : ℕ → Request → ℕ → Reader → State → Talk
 talked zero request sent reader s = talk reader s sent
 talked (suc k) request sent reader s =
     cond (done reader) (talk reader s sent)
-    (talked k request (suc sent) (fed (kindOf request) reader (replyNow (s .place))) (stepped s (getD (builtWords request) sent 0)))
+    (talked k request (suc sent) (afterReply (kindOf request) reader (replyNow (s .place))) (stepped s (getD (builtWords request) sent 0)))
 
 -- four operand words, fifteen waits and two result words
 abbrev pub talkBudget : ℕ

@@ -16,17 +16,17 @@ use Rattle.rest.specs.ToGoLaws.{waits-at-most}
 use Rattle.requests.specs.declared.Request.{Request}
 use Rattle.requests.specs.declared.ResultKind.{ResultKind}
 use Rattle.requests.specs.declared.ResultKind.the-variants.{NoResult, OfSize}
-use Rattle.requests.specs.declared.Outcome.{Outcome}
-use Rattle.requests.specs.declared.Outcome.the-variants.{Value, Complete, BusError, Illegal}
-use Rattle.requests.specs.declared.Reader.{Reader}
-use Rattle.requests.specs.declared.Reader.the-variants.{First, Closed}
+use Rattle.readings.specs.declared.Outcome.{Outcome}
+use Rattle.readings.specs.declared.Outcome.the-variants.{Value, Complete, BusError, Illegal}
+use Rattle.readings.specs.declared.Reader.{Reader}
+use Rattle.readings.specs.declared.Reader.the-variants.{First, Closed}
 use Rattle.requests.specs.Request.{inRange, kindOf}
-use Rattle.requests.specs.Words.{commandWord, operands, builtWords}
+use Rattle.building.specs.RequestWords.{commandWord, operands, builtWords}
 use Rattle.command.specs.CommandLaws.{size-words-bound}
-use Rattle.requests.specs.Replies.{fed, done}
-use Rattle.requests.specs.ReaderLaws.{done-uses-none}
-use Rattle.requests.specs.Meant.{commandOf}
-use Rattle.requests.specs.CountLaws.{word-count-bound}
+use Rattle.readings.specs.Reader.{afterReply, done}
+use Rattle.readings.specs.ReaderLaws.{done-uses-none}
+use Rattle.pod_laws.specs.MeantCommand.{commandOf}
+use Rattle.pod_laws.specs.RequestCountLaws.{word-count-bound}
 use Rattle.trip.specs.Meaning.{Scene, meaning}
 use Rattle.trip.specs.Exchange.{nops, resting, sceneOf, rested, restBudget, restScene, talk, talked, talkBudget, exchanged, unchained, secondWord, legalThere, outcomeThere, stateThere, closingReplies, nopsAfter, packetsThere}
 use Rattle.trip.specs.ClosingLaws.{Closes}
@@ -71,7 +71,7 @@ sent-to-the-end (suc k) request (word ∷ words) i reader s outcome final along 
     (λ t.
     let more : i + suc (length words) ≡ suc i + length words = omega arith in
     rw (t, along .0, more)
-    (sent-to-the-end k request words (suc i) (fed (kindOf request) reader (replyNow (s .place))) (stepped s word) outcome final (along .1) (omega arith)
+    (sent-to-the-end k request words (suc i) (afterReply (kindOf request) reader (replyNow (s .place))) (stepped s word) outcome final (along .1) (omega arith)
     (record { answer = c .answer; all = omega (arith, rw t at (c .all)); state = c .state })))
 
 -- ---- the budget is enough

@@ -15,9 +15,9 @@ use Rattle.registers.specs.Registers.{controlIndex, controlListed, boardAfter}
 use Rattle.work.specs.Access.{past}
 use Rattle.requests.specs.declared.Request.{Request}
 use Rattle.requests.specs.declared.Request.the-variants.{Rdreg, Wdreg, Read, Write, Dump, Fill, Go, Nop, SyncPc, Rcreg, Wcreg, Rdmreg, Wdmreg}
-use Rattle.requests.specs.declared.Outcome.{Outcome}
-use Rattle.requests.specs.declared.Outcome.the-variants.{Value, Complete, BusError}
-use Rattle.requests.specs.Meant.{debugRows}
+use Rattle.readings.specs.declared.Outcome.{Outcome}
+use Rattle.readings.specs.declared.Outcome.the-variants.{Value, Complete, BusError}
+use Rattle.pod_laws.specs.MeantCommand.{debugRows}
 
 -- all that a request finds and leaves
 pub record Scene : Type 0 where

@@ -16,11 +16,11 @@ use Rattle.requests.specs.declared.Request.{Request}
 use Rattle.requests.specs.declared.Request.the-variants.{Rdreg, Wdreg, Read, Write, Dump, Fill, Go, Nop, SyncPc, Rcreg, Wcreg, Rdmreg, Wdmreg}
 use Rattle.requests.specs.declared.ResultKind.the-variants.{OfSize}
 use Rattle.requests.specs.Request.{dataInRange, inRange, kindOf}
-use Rattle.requests.specs.Words.{commandWord, operands}
-use Rattle.requests.specs.WordLaws.{and-right}
-use Rattle.requests.specs.Meant.{commandOf}
-use Rattle.requests.specs.MeantLaws.{decoded-as-meant}
-use Rattle.requests.specs.CountLaws.{found-rdmreg, operand-count}
+use Rattle.building.specs.RequestWords.{commandWord, operands}
+use Rattle.laws.specs.Tests.{both-hold}
+use Rattle.pod_laws.specs.MeantCommand.{commandOf}
+use Rattle.pod_laws.specs.MeantCommandLaws.{decoded-as-meant}
+use Rattle.pod_laws.specs.RequestCountLaws.{found-rdmreg, operand-count}
 use Rattle.trip.specs.Meaning.{Scene, meaning}
 use Rattle.trip.specs.Exchange.{standingIn, legalThere}
 use Rattle.trip.specs.ClosingLaws.{taken}
@@ -30,14 +30,14 @@ use Rattle.trip.specs.WorkLaws.{Meant, load-meant, store-meant, read-con
 no-command : (c : Command) (s : Standing) → legalCommand c s ≡ true → c ≡ Unknown → ⊥
 no-command c s l e =
     let unknown : legalCommand Unknown s ≡ true = rw e at l in
-    let no : false ≡ true = and-right (s .halted || true) false unknown in
+    let no : false ≡ true = both-hold (s .halted || true) false unknown .1 in
     let z : _≡_ {A = ℕ} 0 1 = cc in
     omega arith
 
 pub legal-is-known : (request : Request) (s : Scene) → inRange request ≡ true → legalThere request s ≡ true → commandOf request ≡ Unknown → ⊥
 legal-is-known request s h l e =
     no-command (decoded (commandWord request)) (standingIn s)
-    (and-right (not (carriesC (commandWord request))) (legalCommand (decoded (commandWord request)) (standingIn s)) l)
+    (both-hold (not (carriesC (commandWord request))) (legalCommand (decoded (commandWord request)) (standingIn s)) l .1)
     (rw (decoded-as-meant request h) e)
 
 -- the address and the data that the port takes from a request's operand words
@@ -54,7 +54,7 @@ work-is-meant (Rdreg n) s h known =
     let same : n % 16 ≡ n = omega arith in
     record { outcome = rw same; leaves = refl; fits = λ f. omega (arith, f .general (n % 16)) }
 work-is-meant (Wdreg n v) s h known =
-    let small = leb-true n 15 (and-right (dataInRange Long v) _ h) in
+    let small = leb-true n 15 (both-hold (dataInRange Long v) _ h .1) in
     let same : n % 16 ≡ n = omega arith in
     record { outcome = refl; leaves = rw (same, div-add-mod' v 65536); fits = λ f. tt }
 work-is-meant (Read size a) s h known = rw (div-add-mod' a 65536) (load-meant size s Address a a)

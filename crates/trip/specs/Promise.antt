@@ -6,9 +6,9 @@ use lib.ListN.{length, take, drop}
 use Rattle.board.specs.State.{State}
 use Rattle.run.specs.Run.{ran, replies}
 use Rattle.requests.specs.declared.Request.{Request}
-use Rattle.requests.specs.declared.Outcome.{Outcome}
-use Rattle.requests.specs.declared.Reading.the-variants.{Ended, NotYet}
-use Rattle.requests.specs.Reading.{reading}
+use Rattle.readings.specs.declared.Outcome.{Outcome}
+use Rattle.readings.specs.declared.Reading.the-variants.{Ended, NotYet}
+use Rattle.readings.specs.Reading.{reading}
 
 -- "Reading starts with the reply to the packet after the command word"
 abbrev pub laterReplies : List ℕ → State → List ℕ

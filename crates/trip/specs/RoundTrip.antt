@@ -12,16 +12,16 @@ use Rattle.command.specs.Reply.{complete, illegal}
 use Rattle.board.specs.State.{State}
 use Rattle.run.specs.Run.{ran, replies}
 use Rattle.requests.specs.declared.Request.{Request}
-use Rattle.requests.specs.declared.Outcome.{Outcome}
-use Rattle.requests.specs.declared.Outcome.the-variants.{Illegal}
-use Rattle.requests.specs.declared.Reader.the-variants.{First}
+use Rattle.readings.specs.declared.Outcome.{Outcome}
+use Rattle.readings.specs.declared.Outcome.the-variants.{Illegal}
+use Rattle.readings.specs.declared.Reader.the-variants.{First}
 use Rattle.requests.specs.Request.{inRange, kindOf}
-use Rattle.requests.specs.Words.{commandWord, operands, builtWords}
-use Rattle.requests.specs.WordLaws.{operands-clear}
-use Rattle.requests.specs.Meant.{commandOf}
-use Rattle.requests.specs.MeantLaws.{decoded-as-meant}
-use Rattle.requests.specs.CountLaws.{operand-count}
-use Rattle.requests.specs.NotYetLaws.{not-yet-until}
+use Rattle.building.specs.RequestWords.{commandWord, operands, builtWords}
+use Rattle.building.specs.RequestWordLaws.{operands-clear}
+use Rattle.pod_laws.specs.MeantCommand.{commandOf}
+use Rattle.pod_laws.specs.MeantCommandLaws.{decoded-as-meant}
+use Rattle.pod_laws.specs.RequestCountLaws.{operand-count}
+use Rattle.pod_laws.specs.NotYetLaws.{not-yet-until}
 use Rattle.trip.specs.Meaning.{Scene, meaning}
 use Rattle.trip.specs.Exchange.{nops, resting, unchained, secondWord, legalThere, closingReplies, nopsAfter}
 use Rattle.trip.specs.Promise.{Trip}

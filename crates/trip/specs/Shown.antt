@@ -14,7 +14,7 @@ use Rattle.board.specs.State.{stateOf}
 use Rattle.step.specs.Step.{replyNow, planFor, stepped}
 use Rattle.run.specs.Run.{ran}
 use Rattle.requests.specs.declared.Request.the-variants.{Read, Write, Dump, Fill, Rcreg, Rdmreg}
-use Rattle.requests.specs.declared.Outcome.the-variants.{Value, BusError, Illegal}
+use Rattle.readings.specs.declared.Outcome.the-variants.{Value, BusError, Illegal}
 use Rattle.trip.specs.Meaning.{Scene, meaning}
 use Rattle.trip.specs.Exchange.{restNops, restBudget, outcomeThere, packetsThere}
 

@@ -12,12 +12,12 @@ use Rattle.board.specs.State.{State}
 use Rattle.sound.specs.Sound.{Sound}
 use Rattle.sound.specs.SoundLaws.{packet-keeps-sound}
 use Rattle.requests.specs.declared.Request.{Request}
-use Rattle.requests.specs.declared.Reader.{Reader}
-use Rattle.requests.specs.declared.Reader.the-variants.{First}
+use Rattle.readings.specs.declared.Reader.{Reader}
+use Rattle.readings.specs.declared.Reader.the-variants.{First}
 use Rattle.requests.specs.Request.{inRange, kindOf}
-use Rattle.requests.specs.Words.{commandWord, builtWords}
-use Rattle.requests.specs.WordLaws.{Clear, built-clear}
-use Rattle.requests.specs.Replies.{fed, done}
+use Rattle.building.specs.RequestWords.{commandWord, builtWords}
+use Rattle.building.specs.RequestWordLaws.{Clear, built-clear}
+use Rattle.readings.specs.Reader.{afterReply, done}
 use Rattle.trip.specs.Exchange.{rested, restNops, restBudget, Talk, talk, talked, talkBudget, exchanged}
 use Rattle.trip.specs.RestLaws.{comes-to-rest}
 use Rattle.trip.specs.ExchangeLaws.{exchange-comes-to}
@@ -87,12 +87,12 @@ more-to-say zero request sent reader s t h = let z : true ≡ false = sym h ∙ 
 more-to-say (suc k) request sent reader s t h = omega arith
 
 talk-more : (k : ℕ) (request : Request) (sent : ℕ) (reader : Reader) (s : State) → done reader ≡ false
-    → talked (suc k) request sent reader s ≡ talked k request (suc sent) (fed (kindOf request) reader (replyNow (s .place))) (stepped s (getD (builtWords request) sent 0))
+    → talked (suc k) request sent reader s ≡ talked k request (suc sent) (afterReply (kindOf request) reader (replyNow (s .place))) (stepped s (getD (builtWords request) sent 0))
 unfolding talked
 talk-more k request sent reader s t = rw t
 
 pub talk-goes-on : {request : Request} {sent : ℕ} {reader : Reader} {s start : State} → TalkUnderway request sent reader s start → done reader ≡ false
-    → TalkUnderway request (sent + 1) (fed (kindOf request) reader (replyNow (s .place))) (stepped s (getD (builtWords request) sent 0)) start
+    → TalkUnderway request (sent + 1) (afterReply (kindOf request) reader (replyNow (s .place))) (stepped s (getD (builtWords request) sent 0)) start
 talk-goes-on {request} {sent} {reader} {s} u t =
     let more : 1 ≤ talkBudget + 1 - sent = more-to-say (talkBudget + 1 - sent) request sent reader s t (rw (u .talk) (u .closes)) in
     let k = talkBudget + 1 - (sent + 1) in
@@ -101,7 +101,7 @@ talk-goes-on {request} {sent} {reader} {s} u t =
       begun = omega arith;
       within = omega arith;
       sound = packet-keeps-sound (u .sound) (getD (builtWords request) sent 0);
-      talk = ap (λ i. talked k request i (fed (kindOf request) reader (replyNow (s .place))) (stepped s (getD (builtWords request) sent 0))) (add-one sent) ∙ sym (talk-more k request sent reader s t) ∙ (rw budget at (u .talk));
+      talk = ap (λ i. talked k request i (afterReply (kindOf request) reader (replyNow (s .place))) (stepped s (getD (builtWords request) sent 0))) (add-one sent) ∙ sym (talk-more k request sent reader s t) ∙ (rw budget at (u .talk));
       closes = u .closes;
     }
 

@@ -29,9 +29,9 @@ use Rattle.registers.specs.Registers.{controlIndex, controlListed, controlFetch
 use Rattle.requests.specs.declared.Request.the-variants.{Wdmreg}
 use Rattle.requests.specs.declared.ResultKind.{ResultKind}
 use Rattle.requests.specs.declared.ResultKind.the-variants.{NoResult, OfSize}
-use Rattle.requests.specs.declared.Outcome.the-variants.{Value, Complete}
-use Rattle.requests.specs.Meant.{debugRows}
-use Rattle.requests.specs.CountLaws.{found-has}
+use Rattle.readings.specs.declared.Outcome.the-variants.{Value, Complete}
+use Rattle.pod_laws.specs.MeantCommand.{debugRows}
+use Rattle.pod_laws.specs.RequestCountLaws.{found-debug}
 use Rattle.trip.specs.Meaning.{Scene, Meaning, meaning, ends, reads, writes, readsControl, writesControl}
 use Rattle.trip.specs.Exchange.{sceneOf}
 use Rattle.trip.specs.ClosingLaws.{outcomeOf, Fits}
@@ -153,8 +153,7 @@ pub debug-meant : (n v a : ℕ) (s : Scene) → (lookedUp n debugRows ≡ Unknow
     → Meant (lookedUp n debugRows) a v NoResult s (meaning (Wdmreg n v) s)
 unfolding debugWritten
 debug-meant n v a s known =
-    found-has (λ k c. Meant c a v NoResult s (ends Complete (boardAfter c (s .board) 0 v) s)) n debugRows
-    (written Csr, (written Baar, (written Aatr, (written Tdr, (written Pbr, (written Pbmr, (written Abhr, (written Ablr, (written Dbr, (written Dbmr, tt)))))))))) known
+    found-debug (λ k c. Meant c a v NoResult s (ends Complete (boardAfter c (s .board) 0 v) s)) n written known
   where
     written : (r : DebugRegister) → Meant (command.wdmreg r) a v NoResult s (ends Complete (debugWritten (s .board) r v) s)
     written r = record { outcome = refl; leaves = refl; fits = λ f. tt }

@@ -12,9 +12,9 @@ use Rattle.memory.specs.declared.Size.the-variants.{Byte, Word, Long}
 use Rattle.memory.specs.Memory.{bytes, aligned, present, wordAt, valueAt, putWord, putAt}
 use Rattle.memory.specs.MemoryLaws.{limit, put-keeps-length}
 use Rattle.requests.specs.declared.Request.the-variants.{Read, Write}
-use Rattle.requests.specs.declared.Outcome.the-variants.{Value, Complete}
+use Rattle.readings.specs.declared.Outcome.the-variants.{Value, Complete}
 use Rattle.requests.specs.Request.{dataInRange, inRange}
-use Rattle.requests.specs.WordLaws.{and-right}
+use Rattle.laws.specs.Tests.{both-hold}
 use Rattle.trip.specs.Meaning.{Scene, meaning}
 
 -- ---- the bytes of a store are fetched back
@@ -63,7 +63,7 @@ write-then-read size address value s h there =
     let m = s .memory in
     let at = aligned size address in
     let room : at + bytes size ≤ length m = leb-true (at + bytes size) (length m) there in
-    let fits = data-within size value (and-right (dataInRange Long address) (dataInRange size value) h) in
+    let fits = data-within size value (both-hold (dataInRange Long address) (dataInRange size value) h .1) in
     record {
       completes = rw there;
       reads = rw (there, put-keeps-length m size at value, there) (ap Value (stored-is-fetched size m at value room fits));

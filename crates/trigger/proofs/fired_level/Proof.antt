@@ -1,4 +1,4 @@
-use Rattle.trigger.specs.Groups.{firedLevel}
+use Rattle.trigger.specs.Fired.{firedLevel}
 use borrow.Author.Tests.{eq-eqb, ne-eqb}
 use borrow.Author.Needs.{needs}
 use Rattle.trigger.proofs.fired_level.Statement.{statement}

@@ -1,4 +1,4 @@
-use Rattle.trigger.specs.Groups.{fires}
+use Rattle.trigger.specs.Fired.{fires}
 use borrow.Author.Needs.{needs}
 use Rattle.trigger.proofs.is_fired.Statement.{statement}
 use Rattle.trigger.proofs.is_fired.Tie as tie

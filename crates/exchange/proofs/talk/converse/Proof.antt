@@ -2,7 +2,7 @@ use mathlib.Core.Path.{ap, _∙_}
 use Rattle.board.specs.State.{stateOf}
 use Rattle.step.specs.Step.{stepped}
 use Rattle.sound.specs.SoundLaws.{packet-keeps-sound}
-use Rattle.requests.specs.Words.{commandWord}
+use Rattle.building.specs.RequestWords.{commandWord}
 use Rattle.trip.specs.Exchange.{exchanged}
 use Rattle.trip.specs.Underway.{fromCommand, sent-clear, exchange-closes}
 use Rattle.exchange.specs.SendLaws.{built-then-nops}

@@ -32,8 +32,8 @@ send-requires c κs = (c .before .before .before .before .loop .inv .1 .sound, r
 kind-of-requires : tie.Need-kind-of-requires Inv-loop μ-loop
 kind-of-requires c κs = search needs
 
-feed-requires : tie.Need-feed-requires Inv-loop μ-loop
-feed-requires c κs = search needs
+take-reply-requires : tie.Need-take-reply-requires Inv-loop μ-loop
+take-reply-requires c κs = search needs
 
 add-packets : tie.Need-add-packets Inv-loop μ-loop
 add-packets c = omega (arith, c .before .before .before .before .before .before .before .before .before .before .before .loop .inv .1 .within)
@@ -42,7 +42,7 @@ loop-less : tie.Need-loop-less Inv-loop μ-loop
 loop-less c = omega (arith, talk-goes-on (c .before .before .before .before .before .before .before .before .before .before .before .loop .inv .1) (sym (c .before .before .before .before .before .before .before .before .before .before .is-done .ensures) ∙ not-so _ (c .before .before .before .before .before .before .before .before .before .if1 .taken)) .within)
 
 loop-again : tie.Need-loop-again Inv-loop μ-loop
-loop-again c = let at = c .before .before .before .before .before .before .before .before .before .before .before .loop in let fed-so = rw (c .before .before .before .kind-of .ensures, c .before .before .before .before .before .before .send .ensures .0) at (c .before .before .feed .ensures) in let stepped-so = c .before .before .before .before .before .before .send .ensures .1 ∙ ap (stepped (stateOf (at .b) (at .p) (at .memory))) (c .before .before .before .before .before .before .before .before .word-at .ensures ∙ c .before .before .before .before .before .before .before .before .before .before .before .before .before .before .pre .3 (c .before .before .before .before .before .before .before .before .before .before .before .loop .packets)) in (c .before .before .before .before .before .before .send .kept .1 .1 .0 ∙ at .inv .0, rw (fed-so, stepped-so) (talk-goes-on (at .inv .1) (sym (c .before .before .before .before .before .before .before .before .before .before .is-done .ensures) ∙ not-so _ (c .before .before .before .before .before .before .before .before .before .if1 .taken))))
+loop-again c = let at = c .before .before .before .before .before .before .before .before .before .before .before .loop in let taken-so = rw (c .before .before .before .kind-of .ensures, c .before .before .before .before .before .before .send .ensures .0) at (c .before .before .take-reply .ensures) in let stepped-so = c .before .before .before .before .before .before .send .ensures .1 ∙ ap (stepped (stateOf (at .b) (at .p) (at .memory))) (c .before .before .before .before .before .before .before .before .word-at .ensures ∙ c .before .before .before .before .before .before .before .before .before .before .before .before .before .before .pre .3 (c .before .before .before .before .before .before .before .before .before .before .before .loop .packets)) in (c .before .before .before .before .before .before .send .kept .1 .1 .0 ∙ at .inv .0, rw (taken-so, stepped-so) (talk-goes-on (at .inv .1) (sym (c .before .before .before .before .before .before .before .before .before .before .is-done .ensures) ∙ not-so _ (c .before .before .before .before .before .before .before .before .before .if1 .taken))))
 
 same-length : tie.Need-same-length Inv-loop μ-loop
 same-length c = c .before .before .loop .inv .0
@@ -61,7 +61,7 @@ read-on-spec =
     word-at-requires
     send-requires
     kind-of-requires
-    feed-requires
+    take-reply-requires
     add-packets
     loop-less
     loop-again

@@ -47,7 +47,23 @@ is-set-requires-14 c κs = search needs
 
 returns : tie.Need-returns
 unfolding levelOf
-returns c = rw (← c .before .before .before .before .before .before .before .before .before .before .before .before .before .is-set .ensures, ← c .before .before .before .before .before .before .before .before .before .before .before .before .is-set2 .ensures, ← c .before .before .before .before .before .before .before .before .before .before .before .is-set3 .ensures, ← c .before .before .before .before .before .before .before .before .before .before .is-set4 .ensures, ← c .before .before .before .before .before .before .before .before .before .is-set5 .ensures, ← c .before .before .before .before .before .before .before .before .is-set6 .ensures, ← c .before .before .before .before .before .before .before .is-set7 .ensures, ← c .before .before .before .before .before .before .is-set8 .ensures, ← c .before .before .before .before .before .is-set9 .ensures, ← c .before .before .before .before .is-set10 .ensures, ← c .before .before .before .is-set11 .ensures, ← c .before .before .is-set12 .ensures, ← c .before .is-set13 .ensures, ← c .is-set14 .ensures)
+returns c =
+    rw (
+      ← c .before .before .before .before .before .before .before .before .before .before .before .before .before .is-set .ensures,
+      ← c .before .before .before .before .before .before .before .before .before .before .before .before .is-set2 .ensures,
+      ← c .before .before .before .before .before .before .before .before .before .before .before .is-set3 .ensures,
+      ← c .before .before .before .before .before .before .before .before .before .before .is-set4 .ensures,
+      ← c .before .before .before .before .before .before .before .before .before .is-set5 .ensures,
+      ← c .before .before .before .before .before .before .before .before .is-set6 .ensures,
+      ← c .before .before .before .before .before .before .before .is-set7 .ensures,
+      ← c .before .before .before .before .before .before .is-set8 .ensures,
+      ← c .before .before .before .before .before .is-set9 .ensures,
+      ← c .before .before .before .before .is-set10 .ensures,
+      ← c .before .before .before .is-set11 .ensures,
+      ← c .before .before .is-set12 .ensures,
+      ← c .before .is-set13 .ensures,
+      ← c .is-set14 .ensures,
+    )
 
 pub level-of-spec : {M : Type 1} → statement M
 level-of-spec =

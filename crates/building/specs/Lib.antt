@@ -1,0 +1,3 @@
+pub mod RequestWords
+pub mod Building
+pub mod RequestWordLaws

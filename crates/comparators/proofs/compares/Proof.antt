@@ -1,0 +1,20 @@
+use Rattle.comparators.specs.Comparators.{comparator}
+use borrow.Author.Needs.{needs}
+use Rattle.comparators.proofs.compares.Statement.{statement}
+use Rattle.comparators.proofs.compares.Tie as tie
+
+read-lanes-requires : tie.Need-read-lanes-requires
+read-lanes-requires c κs = search needs
+
+agrees-requires : tie.Need-agrees-requires
+agrees-requires c κs = search needs
+
+turn-requires : tie.Need-turn-requires
+turn-requires c κs = search needs
+
+returns : tie.Need-returns
+unfolding comparator
+returns c = rw (← c .before .before .before .read-lanes .ensures, ← c .before .agrees .ensures, ← c .turn .ensures)
+
+pub compares-spec : {M : Type 1} → statement M
+compares-spec = tie.close (tie.spec read-lanes-requires agrees-requires turn-requires returns)

@@ -1,0 +1,60 @@
+-- Laws of the masked comparison: two numbers agree under a mask exactly where their bits that the mask leaves are the same.
+use Prim.Native.Nat.{ℕ, zero, suc, _/_, _%_, _^_, _<_, max}
+use mathlib.Core.Path.{_≡_, sym, ap, _∙_}
+use mathlib.Core.Bool.{true, false}
+use lib.Dec.{eqb}
+use lib.Bits.{bitOr, or-step, or-shr}
+use borrow.Author.Tests.{eqb-true, eqb-false, eq-eqb}
+use native.Mathlib.Nat.{max-zero, max-le, max-eq-right, div-div-eq-div-mul, pow-succ'}
+use native.Mathlib.Omega.{arith}
+use Rattle.laws.specs.Tests.{by-test}
+use Rattle.comparators.specs.Masks.{bit, agree}
+
+or-low : (a m : ℕ) → bitOr a m % 2 ≡ max (a % 2) (m % 2)
+or-low a m = rw (or-step a m) (omega (arith, max-le {a = a % 2} {b = m % 2} {k = 1} (omega arith) (omega arith)))
+
+-- a digit that is not one is zero
+pub no-one : (n : ℕ) → eqb (n % 2) 1 ≡ false → n % 2 ≡ 0
+no-one n e = omega (arith, eqb-false (n % 2) 1 e)
+
+pub or-digit : (k a m : ℕ) → bitOr a m / 2 ^ k % 2 ≡ max (a / 2 ^ k % 2) (m / 2 ^ k % 2)
+or-digit k a m = ap (λ (x : ℕ). x % 2) (or-shr a m k) ∙ or-low (a / 2 ^ k) (m / 2 ^ k)
+
+-- a bit that the mask leaves is the number's own
+pub left-alone : (k m a : ℕ) → bit k m ≡ false → bitOr a m / 2 ^ k % 2 ≡ a / 2 ^ k % 2
+left-alone k m a free = or-digit k a m ∙ ap (λ (x : ℕ). max (a / 2 ^ k % 2) x) (no-one (m / 2 ^ k) free) ∙ max-zero (a / 2 ^ k % 2)
+
+pub agree-then-bits : (m a b : ℕ) → agree m a b ≡ true → (k : ℕ) → bit k m ≡ false → bit k a ≡ bit k b
+unfolding agree
+agree-then-bits m a b e k free =
+    ap (λ (x : ℕ). eqb x 1) (sym (left-alone k m a free) ∙ ap (λ (x : ℕ). x / 2 ^ k % 2) (eqb-true _ _ e) ∙ left-alone k m b free)
+
+-- a number's half has its bits, one place lower
+pub bit-of-half : (k n : ℕ) → bit k (n / 2) ≡ bit (suc k) n
+bit-of-half k n = ap (λ (x : ℕ). eqb (x % 2) 1) (div-div-eq-div-mul n 2 (2 ^ k) ∙ ap (λ (x : ℕ). n / x) (sym (pow-succ' 2 k)))
+
+same-digit : (a b : ℕ) → eqb (a % 2) 1 ≡ eqb (b % 2) 1 → a % 2 ≡ b % 2
+same-digit a b e =
+    by-test (eqb (a % 2) 1) (λ p. eqb-true _ _ p ∙ sym (eqb-true _ _ (sym e ∙ p))) (λ p. no-one a p ∙ sym (no-one b (sym e ∙ p)))
+
+-- the lowest digits, with the mask's set
+same-low : (m a b : ℕ) → (bit 0 m ≡ false → bit 0 a ≡ bit 0 b) → max (a % 2) (m % 2) ≡ max (b % 2) (m % 2)
+same-low m a b same =
+    by-test (bit 0 m)
+    (λ p.
+    let one : m % 2 ≡ 1 = omega (arith, eqb-true (m / 2 ^ 0 % 2) 1 p) in
+    max-eq-right {n = a % 2} {m = m % 2} (omega arith) ∙ sym (max-eq-right {n = b % 2} {m = m % 2} (omega arith)))
+    (λ p. let low : a % 2 ≡ b % 2 = omega (arith, same-digit (a / 2 ^ 0) (b / 2 ^ 0) (same p)) in ap (λ (x : ℕ). max x (m % 2)) low)
+
+same-or : (n m a b : ℕ) → m < 2 ^ n → a < 2 ^ n → b < 2 ^ n → ((k : ℕ) → k < n → bit k m ≡ false → bit k a ≡ bit k b) → bitOr a m ≡ bitOr b m
+same-or zero m a b hm ha hb same = let z : a ≡ b = omega arith in rw z
+same-or (suc n) m a b hm ha hb same =
+    rw (or-step a m, or-step b m, same-low m a b (same 0 (omega arith)), same-or n (m / 2) (a / 2) (b / 2) (omega arith) (omega arith) (omega arith) higher)
+  where
+    higher : (k : ℕ) → k < n → bit k (m / 2) ≡ false → bit k (a / 2) ≡ bit k (b / 2)
+    higher k below free = bit-of-half k a ∙ same (suc k) (omega arith) (sym (bit-of-half k m) ∙ free) ∙ sym (bit-of-half k b)
+
+-- of numbers of any width n
+pub bits-then-agree : (n m a b : ℕ) → m < 2 ^ n → a < 2 ^ n → b < 2 ^ n → ((k : ℕ) → k < n → bit k m ≡ false → bit k a ≡ bit k b) → agree m a b ≡ true
+unfolding agree
+bits-then-agree n m a b hm ha hb same = eq-eqb _ _ (same-or n m a b hm ha hb same)
