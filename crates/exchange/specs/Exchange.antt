@@ -14,7 +14,8 @@ use Rattle.board.specs.State.{State, stateOf}
 use Rattle.requests.specs.declared.Request.{Request}
 use Rattle.requests.specs.Request.{inRange}
 use Rattle.readings.specs.Reading.{outcomeReply, outcomeValue}
-use Rattle.trip.specs.Exchange.{restScene, restPackets, outcomeThere, stateThere, packetsThere}
+use Rattle.trip.specs.RoundTrip.{outcomeThere, stateThere, packetsThere}
+use Rattle.trip.specs.BroughtToRest.{restScene, restPackets}
 use Rattle.exchange.specs.declared.Exchanged.{Exchanged}
 use Rattle.exchange.specs.declared.Exchanged.the-variants.{Ended, Refused as RefusedToExchange}
 use Rattle.exchange.specs.declared.Returned.{Returned}

@@ -2,6 +2,6 @@ pub mod Exchange
 pub mod ExchangeMirror
 pub mod ExchangeUnique
 pub mod TypedLaws
-pub mod SendLaws
-pub mod ConverseLaws
-pub mod AtRestLaws
+pub mod SendingLaws
+pub mod ExchangeLaws
+pub mod ExchangeAtRestLaws

@@ -1,98 +1,97 @@
--- The round trip: a request's words and then NOPs, sent to a place at rest, are read as what the request means, and leave that.
-use Prim.Native.Nat.{ℕ, suc, _+_, _-_}
-use native.Mathlib.Omega.{arith}
-use mathlib.Core.Path.{_≡_, refl, subst}
-use mathlib.Core.Bool.{true, false}
-use mathlib.Core.List.{List, [], _∷_, _++_}
-use lib.ListN.{length}
-use Rattle.plan.specs.declared.Plan.the-variants.{Work}
-use Rattle.plan.specs.Plan.{noOperands, waitsOf}
-use Rattle.step.specs.Step.{replyNow, left, stepped}
+-- The round trip (01, Packets, and by eye): a request's words and then NOPs sent to a place at rest, what they come to, and the promise.
+use Prim.Native.Nat.{ℕ, _+_, _-_, _<_}
+use mathlib.Core.Path.{_≡_}
+use mathlib.Core.Bool.{Bool, cond}
+use mathlib.Core.List.{List, _++_}
+use lib.ListN.{length, getD, replicate, take, drop}
 use Rattle.command.specs.Reply.{complete, illegal}
-use Rattle.board.specs.State.{State}
+use Rattle.board.specs.declared.Phase.the-variants.{Rest}
+use Rattle.board.specs.declared.Chain.the-variants.{Off}
+use Rattle.board.specs.declared.Standing.{Standing}
+use Rattle.board.specs.State.{State, stateOf}
+use Rattle.plan.specs.Plan.{legalWord, waitsOf}
+use Rattle.step.specs.Step.{stepped}
 use Rattle.run.specs.Run.{ran, replies}
 use Rattle.requests.specs.declared.Request.{Request}
+use Rattle.requests.specs.declared.ResultKind.{ResultKind}
 use Rattle.readings.specs.declared.Outcome.{Outcome}
-use Rattle.readings.specs.declared.Outcome.the-variants.{Illegal}
-use Rattle.readings.specs.declared.Reader.the-variants.{First}
-use Rattle.requests.specs.Request.{inRange, kindOf}
+use Rattle.readings.specs.declared.Outcome.the-variants.{Value, Complete, BusError, Illegal}
+use Rattle.readings.specs.declared.Reading.the-variants.{Ended, NotYet}
+use Rattle.requests.specs.Request.{kindOf, kindWords}
 use Rattle.building.specs.RequestWords.{commandWord, operands, builtWords}
-use Rattle.building.specs.RequestWordLaws.{operands-clear}
+use Rattle.readings.specs.Reading.{reading}
 use Rattle.pod_laws.specs.MeantCommand.{commandOf}
-use Rattle.pod_laws.specs.MeantCommandLaws.{decoded-as-meant}
-use Rattle.pod_laws.specs.RequestCountLaws.{operand-count}
-use Rattle.pod_laws.specs.NotYetLaws.{not-yet-until}
 use Rattle.trip.specs.Meaning.{Scene, meaning}
-use Rattle.trip.specs.Exchange.{nops, resting, unchained, secondWord, legalThere, closingReplies, nopsAfter}
-use Rattle.trip.specs.Promise.{Trip}
-use Rattle.trip.specs.StepLaws.{due-none, command-taken, illegal-taken}
-use Rattle.trip.specs.ClosingLaws.{Closes, told, taken, waited, operands-taken}
-use Rattle.trip.specs.WorkLaws.{Sized, workEnding, workScene}
-use Rattle.trip.specs.MeantLaws.{legal-is-known, addressSent, valueSent, work-is-meant}
 
--- ---- legal
--- the closing replies, once the work is done
-told-as-meant : (request : Request) (s : Scene) (next : ℕ) → inRange request ≡ true → legalThere request s ≡ true → Sized s
-    → Closes (kindOf request) (nops (closingReplies (kindOf request) (meaning request s .outcome))) First
-    (left (Work (commandOf request) (addressSent request) (valueSent request)) (resting s next))
-    (meaning request s .outcome)
-    (resting (meaning request s .leaves) complete)
-told-as-meant request s next h l z =
-    let c = commandOf request in
-    let k = kindOf request in
-    let m = work-is-meant request s h (legal-is-known request s h l) in
-    let after = left (Work c (addressSent request) (valueSent request)) (resting s next) in
-    subst (λ (x : Scene). Closes k (nops (closingReplies k (meaning request s .outcome))) First after (meaning request s .outcome) (resting x complete)) (m .leaves)
-    (subst (λ (o : Outcome). Closes k (nops (closingReplies k o)) First after o (resting (workScene c (addressSent request) (valueSent request) s) complete)) (m .outcome)
-    (told k (workEnding c (addressSent request) s) (workScene c (addressSent request) (valueSent request) s) (m .fits z)))
+-- a NOP is the word 0
+abbrev pub nops : ℕ → List ℕ
+nops n = replicate n 0
 
--- the words after the command word
-pub legal-closes : (request : Request) (s : Scene) (next : ℕ) → inRange request ≡ true → legalThere request s ≡ true → Sized s
-    → Closes (kindOf request) (operands request ++ nops (nopsAfter (s .board .w) request (meaning request s .outcome))) First
-    (stepped (resting s next) (commandWord request))
-    (meaning request s .outcome)
-    (resting (meaning request s .leaves) complete)
-legal-closes request s next h l z =
-    let c = commandOf request in
-    let k = kindOf request in
-    let w = s .board .w in
-    let o = meaning request s .outcome in
-    let final = resting (meaning request s .leaves) complete in
-    rw (command-taken c (commandWord request) next s (decoded-as-meant request h) l, ← operand-count request (legal-is-known request s h l))
-    (operands-taken k c (resting s next) o final (operands request) (nops (nopsAfter w request o)) noOperands (operands-clear request h)
-    (rw (due-none w c (taken noOperands (operands request)))
-    (waited k c (resting s next) o final (waitsOf w c) (closingReplies k o) (addressSent request) (valueSent request) (told-as-meant request s next h l z))))
+-- a place at rest, with what stands there and the reply it holds
+abbrev pub resting : Scene → ℕ → State
+resting s next = stateOf (s .board) (record { phase = Rest; chain = s .chain; pointer = s .pointer; next = next }) (s .memory)
 
--- ---- illegal
-pub illegal-closes : (request : Request) (s : Scene) (next : ℕ) → legalThere request s ≡ false
-    → Closes (kindOf request) (secondWord request ∷ []) First (stepped (resting s next) (commandWord request)) Illegal (stepped (resting (unchained s) illegal) (secondWord request))
-unfolding replies ran replyNow
-illegal-closes request s next l = rw (illegal-taken (commandWord request) next s l) (record { answer = refl; all = refl; state = refl })
+abbrev pub sceneOf : State → Scene
+sceneOf s = record { board = s .board; chain = s .place .chain; pointer = s .place .pointer; memory = s .memory }
 
--- ---- both, as the port runs and the pod reads
-trip-of : (request : Request) (words : List ℕ) (s : State) (outcome : Outcome) (final : State) → inRange request ≡ true
-    → Closes (kindOf request) words First (stepped s (commandWord request)) outcome final
-    → Trip request (commandWord request ∷ words) s outcome final
-unfolding replies ran
-trip-of request words s outcome final h c =
-    let one-less : suc (length words) - 1 ≡ length words = omega arith in
-    record {
-      answer = rw (h, one-less, c .answer, c .all);
-      notYet = λ n f. rw h (not-yet-until (kindOf request) (replies words (stepped s (commandWord request))) n (rw (c .all) (omega arith)));
-      state = c .state;
-    }
+-- ---- the outcome
+abbrev pub standingIn : Scene → Standing
+standingIn s = record { halted = s .board .status .halted; chain = s .chain }
 
--- for every W: the place may hold any chain, pointer and next reply
-pub round-trip : (request : Request) (s : Scene) (next : ℕ) → inRange request ≡ true → legalThere request s ≡ true → Sized s
-    → Trip request (builtWords request ++ nops (nopsAfter (s .board .w) request (meaning request s .outcome))) (resting s next)
-    (meaning request s .outcome)
-    (resting (meaning request s .leaves) complete)
-round-trip request s next h l z =
-    let o = meaning request s .outcome in
-    trip-of request (operands request ++ nops (nopsAfter (s .board .w) request o)) (resting s next) o (resting (meaning request s .leaves) complete) h (legal-closes request s next h l z)
+-- the command word is legal there
+abbrev pub legalThere : Request → Scene → Bool
+legalThere request s = legalWord (commandWord request) (standingIn s)
 
--- "Where the word is illegal, reading gives illegal": after one word more, which is itself taken as a command word
-pub illegal-trip : (request : Request) (s : Scene) (next : ℕ) → inRange request ≡ true → legalThere request s ≡ false
-    → Trip request (commandWord request ∷ secondWord request ∷ []) (resting s next) Illegal (stepped (resting (unchained s) illegal) (secondWord request))
-illegal-trip request s next h l =
-    trip-of request (secondWord request ∷ []) (resting s next) Illegal (stepped (resting (unchained s) illegal) (secondWord request)) h (illegal-closes request s next l)
+abbrev pub outcomeThere : Request → Scene → Outcome
+outcomeThere request s = cond (legalThere request s) (meaning request s .outcome) Illegal
+
+-- ---- what is left
+-- legal: what is meant, at rest, the closing reply gone with a NOP
+abbrev pub legalLeaves : Request → Scene → State
+legalLeaves request s = resting (meaning request s .leaves) complete
+
+-- the word after the command word: an operand word, or a NOP
+abbrev pub secondWord : Request → ℕ
+secondWord request = getD (operands request) 0 0
+
+-- "illegal command word .. ends the chain"
+abbrev pub unchained : Scene → Scene
+unchained s = record { board = s .board; chain = Off; pointer = s .pointer; memory = s .memory }
+
+-- illegal: "the next reply is 0x1FFFF and the port is at rest", and that reply leaves with the second word, itself "a command word taken"
+abbrev pub illegalLeaves : Request → Scene → State
+illegalLeaves request s = stepped (resting (unchained s) illegal) (secondWord request)
+
+unfoldable pub stateThere : Request → Scene → State
+stateThere request s = cond (legalThere request s) (legalLeaves request s) (illegalLeaves request s)
+
+-- ---- the packets
+-- the replies that close a request: the words of its value, or one
+abbrev pub closingReplies : ResultKind → Outcome → ℕ
+closingReplies kind (Value value) = kindWords kind
+closingReplies kind Complete = 1
+closingReplies kind BusError = 1
+closingReplies kind Illegal = 1
+
+-- the NOPs after the built words: W for a command that waits, and one for each closing reply
+abbrev pub nopsThere : Request → Scene → ℕ
+nopsThere request s = waitsOf (s .board .w) (commandOf request) + closingReplies (kindOf request) (meaning request s .outcome)
+
+abbrev pub wordsThere : Request → Scene → List ℕ
+wordsThere request s = builtWords request ++ nops (nopsThere request s)
+
+unfoldable pub packetsThere : Request → Scene → ℕ
+packetsThere request s = cond (legalThere request s) (length (builtWords request) + nopsThere request s) 2
+
+-- ---- the promise
+-- "Reading starts with the reply to the packet after the command word"
+abbrev pub laterReplies : List ℕ → State → List ℕ
+laterReplies words s = drop 1 (replies words s)
+
+pub record Trip (request : Request) (words : List ℕ) (s : State) (outcome : Outcome) (final : State) : Type 0 where
+  -- the replies are read as the outcome, and all of them are used
+  pub answer : reading request (laterReplies words s) ≡ Ended outcome (length words - 1)
+  -- until the last of them is in, it is "not yet"
+  pub notYet : (n : ℕ) → n < length words - 1 → reading request (take n (laterReplies words s)) ≡ NotYet n
+  -- what the words leave: the board, the place and memory
+  pub state : ran words s ≡ final

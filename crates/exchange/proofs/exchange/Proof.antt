@@ -2,7 +2,7 @@ use mathlib.Core.Path.{sym, ap, _∙_}
 use Rattle.board.specs.State.{stateOf}
 use Rattle.exchange.specs.Exchange.{toldExchange}
 use Rattle.exchange.specs.TypedLaws.{typed-is-sound}
-use Rattle.exchange.specs.ConverseLaws.{accepted-is-within}
+use Rattle.exchange.specs.ExchangeLaws.{accepted-is-within}
 use borrow.Author.Needs.{needs}
 use Rattle.exchange.proofs.exchange.Statement.{statement}
 use Rattle.exchange.proofs.exchange.Tie as tie

@@ -8,7 +8,6 @@ use mathlib.Core.List.{List, [], _∷_, _++_}
 use lib.ListN.{length, getD, length-append, length-replicate}
 use Rattle.board.specs.Board.{atRest}
 use Rattle.step.specs.Step.{replyNow, stepped}
-use Rattle.command.specs.Reply.{complete, illegal}
 use Rattle.board.specs.State.{State}
 use Rattle.run.specs.Run.{ran, replies}
 use Rattle.sound.specs.Sound.{Sound}
@@ -28,11 +27,14 @@ use Rattle.readings.specs.ReaderLaws.{done-uses-none}
 use Rattle.pod_laws.specs.MeantCommand.{commandOf}
 use Rattle.pod_laws.specs.RequestCountLaws.{word-count-bound}
 use Rattle.trip.specs.Meaning.{Scene, meaning}
-use Rattle.trip.specs.Exchange.{nops, resting, sceneOf, rested, restBudget, restScene, talk, talked, talkBudget, exchanged, unchained, secondWord, legalThere, outcomeThere, stateThere, closingReplies, nopsAfter, packetsThere}
-use Rattle.trip.specs.ClosingLaws.{Closes}
-use Rattle.trip.specs.WorkLaws.{Sized, sound-is-sized}
-use Rattle.trip.specs.RoundTrip.{legal-closes, illegal-closes}
-use Rattle.trip.specs.RestLaws.{rest-is-resting, comes-to-rest, rest-keeps-sound}
+use Rattle.trip.specs.RoundTrip.{nops, resting, sceneOf, legalThere, outcomeThere, legalLeaves, secondWord, illegalLeaves, stateThere, closingReplies}
+use Rattle.trip.specs.RoundTrip.{nopsThere, packetsThere}
+use Rattle.trip.specs.BroughtToRest.{rested, restBudget, restScene}
+use Rattle.trip.specs.TalkMirror.{Talk, talk, talked, talkBudget, exchanged}
+use Rattle.trip.specs.ClosesLaws.{Closes}
+use Rattle.trip.specs.MeantWorkLaws.{Sized, sound-is-sized}
+use Rattle.trip.specs.RoundTripLaws.{legal-closes, illegal-closes}
+use Rattle.trip.specs.BroughtToRestLaws.{rest-is-resting, comes-to-rest, rest-keeps-sound}
 use Rattle.laws.specs.Tests.{by-test}
 
 -- ---- the words sent, one after the other
@@ -54,7 +56,8 @@ along-all [] n = along-nops 0 n
 along-all (x ∷ xs) n = (refl, along-later x xs 0 (xs ++ nops n) (along-all xs n))
 
 -- words that close a request within the budget are those that are sent
-closed-talk : (k : ℕ) (request : Request) (i : ℕ) (reader : Reader) (s : State) (outcome : Outcome) → reader ≡ Closed outcome → talked k request i reader s ≡ talk (Closed outcome) s i
+closed-talk : (k : ℕ) (request : Request) (i : ℕ) (reader : Reader) (s : State) (outcome : Outcome) → reader ≡ Closed outcome
+    → talked k request i reader s ≡ talk (Closed outcome) s i
 unfolding talked
 closed-talk zero request i reader s outcome e = rw e
 closed-talk (suc k) request i reader s outcome e = rw e
@@ -85,52 +88,55 @@ closing-bound kind Illegal = omega arith
 words-length : (words : List ℕ) (n : ℕ) → length (words ++ nops n) ≡ length words + n
 words-length words n = length-append words (nops n) ∙ ap (λ k. length words + k) (length-replicate n 0)
 
-pub nops-after-bound : (w : ℕ) (request : Request) (outcome : Outcome) → w ≤ 15 → nopsAfter w request outcome ≤ 17
-nops-after-bound w request outcome h = omega (arith, waits-at-most w (commandOf request), closing-bound (kindOf request) outcome)
+nops-bound : (request : Request) (s : Scene) → s .board .w ≤ 15 → nopsThere request s ≤ 17
+nops-bound request s small =
+    omega (arith, waits-at-most (s .board .w) (commandOf request), closing-bound (kindOf request) (meaning request s .outcome))
 
 -- ---- the exchange
+-- it ends in the outcome, the state and the number of packets that are meant there
+abbrev pub talkThere : Request → Scene → Talk
+talkThere request s = talk (Closed (outcomeThere request s)) (stateThere request s) (packetsThere request s)
+
 module _ (request : Request) (s : Scene) (next : ℕ) (h : inRange request ≡ true) where
   legal-talk : legalThere request s ≡ true → Sized s → s .board .w ≤ 15
       → exchanged request (resting s next)
-      ≡ talk (Closed (meaning request s .outcome)) (resting (meaning request s .leaves) complete) (length (builtWords request) + nopsAfter (s .board .w) request (meaning request s .outcome))
+      ≡ talk (Closed (meaning request s .outcome)) (legalLeaves request s) (length (builtWords request) + nopsThere request s)
   unfolding exchanged
   legal-talk l z small =
-      let o = meaning request s .outcome in
-      let n = nopsAfter (s .board .w) request o in
+      let n = nopsThere request s in
+      let later = operands request ++ nops n in
       let len = words-length (operands request) n in
-      let sum : 1 + length (operands request ++ nops n) ≡ length (builtWords request) + n = omega arith in
-      sent-to-the-end talkBudget request (operands request ++ nops n) 1 First (stepped (resting s next) (commandWord request)) o (resting (meaning request s .leaves) complete)
+      let sum : 1 + length later ≡ length (builtWords request) + n = omega arith in
+      sent-to-the-end talkBudget request later 1 First (stepped (resting s next) (commandWord request)) (meaning request s .outcome) (legalLeaves request s)
       (along-all (builtWords request) n .1)
-      (omega (arith, word-count-bound request, nops-after-bound (s .board .w) request o small))
+      (omega (arith, word-count-bound request, nops-bound request s small))
       (legal-closes request s next h l z)
       ∙ rw sum
 
-  illegal-talk : legalThere request s ≡ false → exchanged request (resting s next) ≡ talk (Closed Illegal) (stepped (resting (unchained s) illegal) (secondWord request)) 2
+  illegal-talk : legalThere request s ≡ false → exchanged request (resting s next) ≡ talk (Closed Illegal) (illegalLeaves request s) 2
   unfolding exchanged
   illegal-talk l =
-      sent-to-the-end talkBudget request (secondWord request ∷ []) 1 First (stepped (resting s next) (commandWord request)) Illegal (stepped (resting (unchained s) illegal) (secondWord request))
+      sent-to-the-end talkBudget request (secondWord request ∷ []) 1 First (stepped (resting s next) (commandWord request)) Illegal (illegalLeaves request s)
       (refl, tt) (omega arith) (illegal-closes request s next l)
 
-  -- from rest an exchange ends, in the outcome, the state and the number of packets that are meant
-  pub exchange-from-rest : Sized s → s .board .w ≤ 15 → exchanged request (resting s next) ≡ talk (Closed (outcomeThere request s)) (stateThere request s) (packetsThere request s)
+  pub exchange-from-rest : Sized s → s .board .w ≤ 15 → exchanged request (resting s next) ≡ talkThere request s
   unfolding stateThere packetsThere
   exchange-from-rest z small = by-test (legalThere request s) (λ l. rw l (legal-talk l z small)) (λ l. rw l (illegal-talk l))
 
 pub exchange-comes-to : (request : Request) {s : State} → inRange request ≡ true → Sound s → atRest (s .place .phase) ≡ true
-    → exchanged request s ≡ talk (Closed (outcomeThere request (sceneOf s))) (stateThere request (sceneOf s)) (packetsThere request (sceneOf s))
+    → exchanged request s ≡ talkThere request (sceneOf s)
 exchange-comes-to request {s} h f t =
-    subst (λ (x : State). exchanged request x ≡ talk (Closed (outcomeThere request (sceneOf s))) (stateThere request (sceneOf s)) (packetsThere request (sceneOf s)))
-    (sym (rest-is-resting s t))
+    subst (λ (x : State). exchanged request x ≡ talkThere request (sceneOf s)) (sym (rest-is-resting s t))
     (exchange-from-rest request (sceneOf s) (s .place .next) h (sound-is-sized f) (f .board .small))
 
 -- and from anywhere, once it is brought to rest
 pub exchange-from-anywhere : (request : Request) {s : State} → inRange request ≡ true → Sound s
-    → exchanged request (rested restBudget s) ≡ talk (Closed (outcomeThere request (restScene s))) (stateThere request (restScene s)) (packetsThere request (restScene s))
+    → exchanged request (rested restBudget s) ≡ talkThere request (restScene s)
 exchange-from-anywhere request {s} h f = exchange-comes-to request h (rest-keeps-sound restBudget s f) (comes-to-rest f)
 
 pub packets-bound : (request : Request) (s : Scene) → s .board .w ≤ 15 → packetsThere request s ≤ 22
 unfolding packetsThere
 packets-bound request s small =
     by-test (legalThere request s)
-    (λ l. rw l (omega (arith, word-count-bound request, nops-after-bound (s .board .w) request (meaning request s .outcome) small)))
+    (λ l. rw l (omega (arith, word-count-bound request, nops-bound request s small)))
     (λ l. rw l (omega arith))

@@ -2,15 +2,13 @@
 use Prim.Native.Nat.{ℕ, _^_, _≤_, _<_}
 use native.Mathlib.Omega.{arith}
 use mathlib.Core.Path.{_≡_, refl, ap}
-use mathlib.Core.Bool.{Bool, true, false, cond}
-use mathlib.Core.List.{List}
+use mathlib.Core.Bool.{Bool, true, false}
 use lib.Bits.{and-le-r}
 use Rattle.memory.specs.declared.Size.{Size}
 use Rattle.memory.specs.declared.Size.the-variants.{Byte, Word, Long}
-use Rattle.memory.specs.Memory.{aligned, present, valueAt, fetched, putAt, stored}
+use Rattle.memory.specs.Memory.{aligned, present, valueAt, fetched, stored}
 use Rattle.memory.specs.MemoryLaws.{AllBelow, limit, value-within}
 use Rattle.command.specs.declared.DebugRegister.{DebugRegister}
-use Rattle.command.specs.declared.DebugRegister.the-variants.{Csr, Baar, Aatr, Tdr, Pbr, Pbmr, Abhr, Ablr, Dbr, Dbmr}
 use Rattle.command.specs.declared.Command.{Command}
 use Rattle.command.specs.declared.Command.the-variants.{Unknown, Load, Store}
 use Rattle.command.specs.declared.Base.{Base}
@@ -18,9 +16,9 @@ use Rattle.command.specs.Command as command
 use Rattle.command.specs.Command.{lookedUp}
 use Rattle.board.specs.declared.Board.{Board}
 use Rattle.board.specs.declared.Chain.{Chain}
-use Rattle.work.specs.declared.Access.the-variants.{Fetched, Missing}
+use Rattle.work.specs.declared.Access.the-variants.{Fetched}
 use Rattle.work.specs.declared.Ending.{Ending}
-use Rattle.work.specs.Access.{past, fetching, startOf, accessOf, memoryAfter, pointerAfter}
+use Rattle.work.specs.Access.{past, startOf, accessOf, memoryAfter, pointerAfter}
 use Rattle.work.specs.Work.{accessEnding, endingOf, chainBy, chainAfter}
 use Rattle.board.specs.State.{State}
 use Rattle.sound.specs.Sound.{Sound}
@@ -33,8 +31,8 @@ use Rattle.readings.specs.declared.Outcome.the-variants.{Value, Complete}
 use Rattle.pod_laws.specs.MeantCommand.{debugRows}
 use Rattle.pod_laws.specs.RequestCountLaws.{found-debug}
 use Rattle.trip.specs.Meaning.{Scene, Meaning, meaning, ends, reads, writes, readsControl, writesControl}
-use Rattle.trip.specs.Exchange.{sceneOf}
-use Rattle.trip.specs.ClosingLaws.{outcomeOf, Fits}
+use Rattle.trip.specs.RoundTrip.{sceneOf}
+use Rattle.trip.specs.ClosesLaws.{outcomeOf, Fits}
 use Rattle.laws.specs.Tests.{by-test}
 
 -- what the port's work ends in, and what it leaves
@@ -68,23 +66,6 @@ pub record Meant (c : Command) (address value : ℕ) (kind : ResultKind) (s : Sc
   pub fits : Sized s → Fits kind (workEnding c address s)
 
 -- ---- memory
-module _ (m : List ℕ) (size : Size) (a : ℕ) where
-  fetched-there : present m size a ≡ true → fetching m size a ≡ Fetched size (valueAt m size (aligned size a)) (past size a)
-  unfolding fetched
-  fetched-there h = rw h
-
-  fetched-missing : present m size a ≡ false → fetching m size a ≡ Missing
-  unfolding fetched
-  fetched-missing h = rw h
-
-  stored-there : (v : ℕ) → present m size a ≡ true → stored m size a v ≡ putAt m size (aligned size a) v
-  unfolding stored
-  stored-there v h = rw h
-
-  stored-missing : (v : ℕ) → present m size a ≡ false → stored m size a v ≡ m
-  unfolding stored
-  stored-missing v h = rw h
-
 fetched-outcome : (size : Size) (v p : ℕ) → outcomeOf (accessEnding (Fetched size v p)) ≡ Value v
 fetched-outcome Byte v p = refl
 fetched-outcome Word v p = refl
@@ -102,28 +83,28 @@ fetched-fits Long v p h = omega arith
 
 module _ (size : Size) (s : Scene) where
   pub load-meant : (base : Base) (a v : ℕ) → Meant (Load size base) a v (OfSize size) s (reads size (startOf base (s .pointer) a) s)
+  unfolding fetched
   load-meant base a v =
       let at = startOf base (s .pointer) a in
       let x = valueAt (s .memory) size (aligned size at) in
       by-test (present (s .memory) size at)
       (λ h.
-      let there = fetched-there (s .memory) size at h in
       record {
-        outcome = rw (h, there) (fetched-outcome size x (past size at));
+        outcome = rw h (fetched-outcome size x (past size at));
         leaves =
-            rw (h, there)
+            rw h
             (ap (λ chain. record { board = s .board; chain = chain; pointer = past size at; memory = s .memory })
             (fetched-chain size x (past size at) (Load size base) (s .chain)));
-        fits = λ f. rw there (fetched-fits size x (past size at) (value-within (s .memory) size (aligned size at) (f .bytes)));
+        fits = λ f. rw h (fetched-fits size x (past size at) (value-within (s .memory) size (aligned size at) (f .bytes)));
       })
-      (λ h. let missing = fetched-missing (s .memory) size at h in record { outcome = rw (h, missing); leaves = rw (h, missing); fits = λ f. rw missing tt })
+      (λ h. record { outcome = rw h; leaves = rw h; fits = λ f. rw h tt })
 
   pub store-meant : (base : Base) (a v : ℕ) → Meant (Store size base) a v NoResult s (writes size (startOf base (s .pointer) a) v s)
+  unfolding stored
   store-meant base a v =
-      let at = startOf base (s .pointer) a in
-      by-test (present (s .memory) size at)
-      (λ h. record { outcome = rw h; leaves = rw (h, stored-there (s .memory) size at v h); fits = λ f. rw h tt })
-      (λ h. record { outcome = rw h; leaves = rw (h, stored-missing (s .memory) size at v h); fits = λ f. rw h tt })
+      by-test (present (s .memory) size (startOf base (s .pointer) a))
+      (λ h. record { outcome = rw h; leaves = rw h; fits = λ f. rw h tt })
+      (λ h. record { outcome = rw h; leaves = rw h; fits = λ f. rw h tt })
 
 -- ---- control registers
 module _ (s : Scene) where
@@ -137,7 +118,9 @@ module _ (s : Scene) where
   pub write-control-meant : (rc v : ℕ) → Meant command.wcreg rc v NoResult s (writesControl rc v s)
   unfolding controlFetched controlWritten
   write-control-meant rc v =
-      by-test (controlListed rc) (λ h. record { outcome = rw h; leaves = rw h; fits = λ f. rw h tt }) (λ h. record { outcome = rw h; leaves = rw h; fits = λ f. rw h tt })
+      by-test (controlListed rc)
+      (λ h. record { outcome = rw h; leaves = rw h; fits = λ f. rw h tt })
+      (λ h. record { outcome = rw h; leaves = rw h; fits = λ f. rw h tt })
 
 -- ---- CSR and the debug registers
 flag-within : (x : Bool) → flag x ≤ 1
@@ -147,7 +130,8 @@ flag-within false = omega arith
 pub csr-fits : (b : Board) → csrValue b ≤ 0xFFFFFFFF
 unfolding csrValue
 csr-fits b =
-    omega (arith, flag-within (b .status .fof), flag-within (b .status .trg), flag-within (b .status .halt), flag-within (b .status .bkpt), and-le-r (b .debug .csr) 0x0007FF70)
+    let t = b .status in
+    omega (arith, flag-within (t .fof), flag-within (t .trg), flag-within (t .halt), flag-within (t .bkpt), and-le-r (b .debug .csr) 0x0007FF70)
 
 pub debug-meant : (n v a : ℕ) (s : Scene) → (lookedUp n debugRows ≡ Unknown → ⊥)
     → Meant (lookedUp n debugRows) a v NoResult s (meaning (Wdmreg n v) s)

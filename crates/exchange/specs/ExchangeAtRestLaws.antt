@@ -20,13 +20,14 @@ use Rattle.requests.specs.declared.Request.the-variants.{Read, Write}
 use Rattle.readings.specs.declared.Outcome.the-variants.{Value}
 use Rattle.requests.specs.Request.{dataInRange, inRange}
 use Rattle.trip.specs.Meaning.{Scene, meaning}
-use Rattle.trip.specs.Exchange.{resting, sceneOf, restBudget, restScene, restPackets, legalThere, stateThere, packetsThere}
-use Rattle.trip.specs.Underway.{rest-stays}
-use Rattle.trip.specs.WriteRead.{write-then-read}
-use Rattle.trip.specs.Consequences.{left-sound}
+use Rattle.trip.specs.RoundTrip.{resting, sceneOf, legalThere, stateThere, packetsThere}
+use Rattle.trip.specs.BroughtToRest.{restBudget, restScene, restPackets}
+use Rattle.trip.specs.UnderwayLaws.{rest-stays}
+use Rattle.trip.specs.WriteReadLaws.{write-then-read}
+use Rattle.trip.specs.NextRequestLaws.{left-sound}
 use Rattle.exchange.specs.declared.Exchanged.the-variants.{Ended}
 use Rattle.exchange.specs.declared.Returned.{Returned}
-use Rattle.exchange.specs.Exchange.{exchangeVerdict, toldExchange, ExchangeMeets}
+use Rattle.exchange.specs.Exchange.{exchangeVerdict, ExchangeMeets}
 use Rattle.exchange.specs.ExchangeUnique.{told-exchange-unique}
 
 pub record FromRest (request : Request) (s : Scene) (next : ℕ) : Type 0 where

@@ -1,7 +1,7 @@
 -- Laws of a packet's step: a command under way goes on as if nothing had been held, and a NOP at rest leaves all but the reply.
 use Prim.Native.Nat.{ℕ, zero, suc, _-_, _≤_}
 use native.Mathlib.Omega.{arith}
-use mathlib.Core.Path.{_≡_, refl, ap}
+use mathlib.Core.Path.{_≡_, refl}
 use mathlib.Core.Bool.{true, false}
 use borrow.Author.Tests.{lt-leb, ne-eqb}
 use Rattle.command.specs.declared.Command.{Command}
@@ -15,16 +15,16 @@ use Rattle.board.specs.declared.Phase.{Phase}
 use Rattle.board.specs.declared.Phase.the-variants.{Due, Waiting}
 use Rattle.work.specs.declared.Ending.{Ending}
 use Rattle.work.specs.declared.Ending.the-variants.{Complete, Failed, OneWord, TwoWords}
-use Rattle.work.specs.Access.{accessOf, memoryAfter, pointerAfter}
-use Rattle.work.specs.Work.{endingOf, firstReply, phaseAfter, chainBy, chainAfter}
-use Rattle.registers.specs.Registers.{boardAfter}
+use Rattle.work.specs.Access.{accessOf}
+use Rattle.work.specs.Work.{endingOf, chainBy, chainAfter}
 use Rattle.plan.specs.declared.Plan.the-variants.{Hold, Work}
 use Rattle.plan.specs.Plan.{withOperand, noOperands, addressIn, valueIn, waitsOf, workAfter, collected, begun, continued, legalWord}
 use Rattle.plan.specs.PlanLaws.{nop-plan}
+use Rattle.board.specs.Setters.{placeWith}
 use Rattle.board.specs.State.{State, stateOf}
 use Rattle.step.specs.Step.{chainDuring, left, planFor, stepped}
 use Rattle.trip.specs.Meaning.{Scene}
-use Rattle.trip.specs.Exchange.{resting, unchained, standingIn}
+use Rattle.trip.specs.RoundTrip.{resting, unchained, standingIn}
 
 during-during : (c : Command) (chain : Chain) → chainDuring c (chainDuring c chain) ≡ chainDuring c chain
 during-during Unknown chain = refl
@@ -52,7 +52,7 @@ after-during (TwoWords v) c chain = by-during c chain
 
 -- the state while a command is under way
 abbrev pub under : Command → Phase → State → State
-under c phase s = stateOf (s .board) (record { phase = phase; chain = chainDuring c (s .place .chain); pointer = s .place .pointer; next = notReady }) (s .memory)
+under c phase s = stateOf (s .board) (placeWith (s .place) phase (chainDuring c (s .place .chain)) (s .place .pointer) notReady) (s .memory)
 
 -- what is left decides the plan
 pub waits-none : (c : Command) (address value : ℕ) → workAfter 0 c address value ≡ Work c address value
@@ -73,19 +73,10 @@ due-more w n c t = rw (ne-eqb (suc n) 0 (omega arith))
 
 module _ (c : Command) (phase : Phase) (s : State) where
   under-again : (further : Phase) → under c further (under c phase s) ≡ under c further s
-  under-again further =
-      ap (λ (chain : Chain). stateOf (s .board) (record { phase = further; chain = chain; pointer = s .place .pointer; next = notReady }) (s .memory)) (during-during c (s .place .chain))
+  under-again further = rw (during-during c (s .place .chain))
 
   work-under : (address value : ℕ) → left (Work c address value) (under c phase s) ≡ left (Work c address value) s
-  work-under address value =
-      let access = accessOf c (s .memory) (s .place .pointer) address in
-      let ending : Ending = endingOf c (s .board) address access in
-      ap
-      (λ (chain : Chain).
-      stateOf (boardAfter c (s .board) address value)
-      (record { phase = phaseAfter ending; chain = chain; pointer = pointerAfter access (s .place .pointer); next = firstReply ending })
-      (memoryAfter c (s .memory) (s .place .pointer) address value))
-      (after-during ending c (s .place .chain))
+  work-under address value = rw (after-during (endingOf c (s .board) address (accessOf c (s .memory) (s .place .pointer) address)) c (s .place .chain))
 
   ready-under : (k address value : ℕ) → left (workAfter k c address value) (under c phase s) ≡ left (workAfter k c address value) s
   ready-under zero address value = rw (waits-none c address value) (work-under address value)
@@ -107,7 +98,8 @@ operand-taken n c t s word clear =
 pub wait-taken : (k : ℕ) (c : Command) (address value : ℕ) (s : State) (word : ℕ)
     → stepped (under c (Waiting c (suc k) address value) s) word ≡ left (workAfter k c address value) s
 unfolding stepped planFor
-wait-taken k c address value s word = let one-less : suc k - 1 ≡ k = omega arith in rw one-less (ready-under c (Waiting c (suc k) address value) s k address value)
+wait-taken k c address value s word =
+    let one-less : suc k - 1 ≡ k = omega arith in rw one-less (ready-under c (Waiting c (suc k) address value) s k address value)
 
 -- "Every packet accepted at rest is a command word taken"
 pub command-taken : (c : Command) (word next : ℕ) (s : Scene) → decoded word ≡ c → legalWord word (standingIn s) ≡ true

@@ -1,7 +1,7 @@
 -- Laws of sending: no packet of an exchange is refused, and the words in the buffer are those built.
 use Prim.Native.Nat.{ℕ, zero, suc, _≤_}
 use native.Mathlib.Omega.{arith}
-use mathlib.Core.Path.{_≡_, refl, ap, _∙_}
+use mathlib.Core.Path.{_≡_, refl, sym, ap, _∙_}
 use mathlib.Core.Bool.{Bool, true, false, not}
 use mathlib.Core.List.{List, [], _∷_, _++_}
 use lib.ListN.{length, getD, drop, replicate}
@@ -24,14 +24,14 @@ pub sound-is-sent : {s : State} {word : ℕ} {r : Answer} {after : List ℕ} →
 sound-is-sent {s} {word} f clear met =
     accepted-takes-its-step met (no-other s word (sound-is-in-range (s .board .w) (s .board) (s .place) (f .board) (f .place)) (f .memory .limit) (omega arith))
 
--- ---- a test turned round
-pub not-so : (t : Bool) → not t ≡ true → t ≡ false
-not-so true h = cc
-not-so false h = refl
+-- ---- a loop goes on while a test does not hold, and ends where it does
+pub not-so : {t x : Bool} → t ≡ x → not t ≡ true → x ≡ false
+not-so {t = true} e h = cc
+not-so {t = false} e h = sym e
 
-pub so-after-all : (t : Bool) → not t ≡ false → t ≡ true
-so-after-all true h = refl
-so-after-all false h = cc
+pub so-after-all : {t x : Bool} → t ≡ x → not t ≡ false → x ≡ true
+so-after-all {t = true} e h = sym e
+so-after-all {t = false} e h = cc
 
 -- ---- the buffer
 zeros : (n i : ℕ) → _≡_ {A = ℕ} (getD (replicate n 0) i 0) 0

@@ -6,6 +6,7 @@ use mathlib.Core.Bool.{true}
 use Rattle.board.specs.declared.Phase.{Phase}
 use Rattle.board.specs.declared.Phase.the-variants.{Rest, Due, Waiting, Low}
 use Rattle.board.specs.Board.{atRest}
+use Rattle.board.specs.Setters.{placeWith}
 use Rattle.board.specs.State.{State, stateOf}
 use Rattle.step.specs.Step.{stepped}
 use Rattle.run.specs.Run.{ran}
@@ -13,7 +14,8 @@ use Rattle.sound.specs.Sound.{Sound}
 use Rattle.sound.specs.SoundLaws.{packet-keeps-board, packet-keeps-sound}
 use Rattle.rest.specs.ToGoLaws.{toGo, to-go-at-most, none-to-go, some-to-go}
 use Rattle.rest.specs.NopLaws.{nop-takes-one-off}
-use Rattle.trip.specs.Exchange.{nops, resting, sceneOf, rested, restNops, restBudget, restPackets}
+use Rattle.trip.specs.RoundTrip.{nops, resting, sceneOf}
+use Rattle.trip.specs.BroughtToRest.{rested, restNops, restBudget, restPackets}
 use Rattle.laws.specs.Tests.{by-test}
 
 nop-leaves : {s : State} → Sound s → toGo (stepped s 0 .board .w) (stepped s 0 .place .phase) ≤ toGo (s .board .w) (s .place .phase) - 1
@@ -43,7 +45,9 @@ unfolding restNops
 nops-within zero s f = omega arith
 nops-within (suc k) s f =
     by-test (atRest (s .place .phase)) (λ t. rw t (omega arith))
-    (λ t. rw t (omega (arith, nops-within k (stepped s 0) (packet-keeps-sound f 0), nop-leaves f, rw t at (some-to-go (s .board .w) (s .place .phase) (f .place .phase)))))
+    (λ t.
+    let some = rw t at (some-to-go (s .board .w) (s .place .phase) (f .place .phase)) in
+    rw t (omega (arith, nops-within k (stepped s 0) (packet-keeps-sound f 0), nop-leaves f, some)))
 
 -- no more than 4 + W go out
 pub rest-nops-bound : (k : ℕ) {s : State} → Sound s → restNops k s ≤ 4 + s .board .w
@@ -63,7 +67,8 @@ pub rest-is-resting : (s : State) → atRest (s .place .phase) ≡ true → s �
 rest-is-resting s t = by-phase (s .place .phase) t
   where
     by-phase : (phase : Phase) → atRest phase ≡ true
-        → stateOf (s .board) (record { phase = phase; chain = s .place .chain; pointer = s .place .pointer; next = s .place .next }) (s .memory) ≡ resting (sceneOf s) (s .place .next)
+        → stateOf (s .board) (placeWith (s .place) phase (s .place .chain) (s .place .pointer) (s .place .next)) (s .memory)
+        ≡ resting (sceneOf s) (s .place .next)
     by-phase Rest t = refl
     by-phase (Due c n o) t = cc
     by-phase (Waiting c n a v) t = cc

@@ -14,16 +14,15 @@ use Rattle.requests.specs.declared.Request.{Request}
 use Rattle.readings.specs.declared.Reading.the-variants.{Ended}
 use Rattle.readings.specs.declared.Reader.the-variants.{First}
 use Rattle.requests.specs.Request.{inRange, kindOf}
-use Rattle.building.specs.RequestWords.{commandWord, operands, builtWords}
+use Rattle.building.specs.RequestWords.{commandWord, operands}
 use Rattle.readings.specs.Reader.{afterReplies, done}
 use Rattle.readings.specs.Reading.{reading, readingOf}
 use Rattle.pod_laws.specs.NotYetLaws.{further-replies}
 use Rattle.trip.specs.Meaning.{Scene, Meaning, meaning}
-use Rattle.trip.specs.Exchange.{nops, resting, legalThere, nopsAfter}
-use Rattle.trip.specs.Promise.{laterReplies}
-use Rattle.trip.specs.StepLaws.{nop-at-rest}
-use Rattle.trip.specs.RoundTrip.{legal-closes, round-trip}
-use Rattle.trip.specs.WorkLaws.{Sized, sound-is-sized}
+use Rattle.trip.specs.RoundTrip.{nops, resting, legalThere, legalLeaves, nopsThere, wordsThere, laterReplies}
+use Rattle.trip.specs.PacketTakenLaws.{nop-at-rest}
+use Rattle.trip.specs.RoundTripLaws.{legal-closes, round-trip}
+use Rattle.trip.specs.MeantWorkLaws.{Sized, sound-is-sized}
 
 -- ---- more NOPs
 ran-append : (xs ys : List ℕ) (s : State) → ran (xs ++ ys) s ≡ ran ys (ran xs s)
@@ -49,18 +48,19 @@ pub record Beyond (request : Request) (words : List ℕ) (s : State) (n : ℕ) (
 
 -- the words of the round trip and any number of NOPs more
 pub further-nops : (request : Request) (s : Scene) (next n : ℕ) → inRange request ≡ true → legalThere request s ≡ true → Sized s
-    → Beyond request (builtWords request ++ nops (nopsAfter (s .board .w) request (meaning request s .outcome))) (resting s next) n (meaning request s)
+    → Beyond request (wordsThere request s) (resting s next) n (meaning request s)
 unfolding replies
 further-nops request s next n h l z =
     let k = kindOf request in
-    let later = operands request ++ nops (nopsAfter (s .board .w) request (meaning request s .outcome)) in
+    let later = operands request ++ nops (nopsThere request s) in
     let start = stepped (resting s next) (commandWord request) in
     let trip = round-trip request s next h l z in
     let closed : done (afterReplies k First (replies later start)) ≡ true = rw (legal-closes request s next h l z .answer) in
     let read : readingOf k (replies later start) ≡ Ended (meaning request s .outcome) (suc (length later) - 1) = rw h at (trip .answer) in
     record {
       answer = rw (h, replies-append later (nops n) start) (further-replies k (replies later start) (replies (nops n) (ran later start)) closed ∙ read);
-      state = ran-append (commandWord request ∷ later) (nops n) (resting s next) ∙ ap (ran (nops n)) (trip .state) ∙ nops-at-rest n (meaning request s .leaves);
+      state =
+          ran-append (wordsThere request s) (nops n) (resting s next) ∙ ap (ran (nops n)) (trip .state) ∙ nops-at-rest n (meaning request s .leaves);
     }
 
 -- ---- the next request
@@ -70,7 +70,7 @@ run-keeps-sound [] s f = f
 run-keeps-sound (word ∷ words) s f = run-keeps-sound words (stepped s word) (packet-keeps-sound f word)
 
 -- a place that a request leaves is one that the next may find
-pub left-sound : (request : Request) (s : Scene) (next : ℕ) → inRange request ≡ true → legalThere request s ≡ true → Sound (resting s next) → Sound (resting (meaning request s .leaves) complete)
+pub left-sound : (request : Request) (s : Scene) (next : ℕ) → inRange request ≡ true → legalThere request s ≡ true → Sound (resting s next)
+    → Sound (legalLeaves request s)
 left-sound request s next h l f =
-    let words = builtWords request ++ nops (nopsAfter (s .board .w) request (meaning request s .outcome)) in
-    subst Sound (round-trip request s next h l (sound-is-sized f) .state) (run-keeps-sound words (resting s next) f)
+    subst Sound (round-trip request s next h l (sound-is-sized f) .state) (run-keeps-sound (wordsThere request s) (resting s next) f)

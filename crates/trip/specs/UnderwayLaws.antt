@@ -2,7 +2,7 @@
 use Prim.Native.Nat.{ℕ, zero, suc, _+_, _-_, _≤_}
 use native.Mathlib.Omega.{arith}
 use native.Mathlib.Numerals.{add-one}
-use mathlib.Core.Path.{_≡_, refl, sym, ap, _∙_}
+use mathlib.Core.Path.{_≡_, refl, sym, _∙_}
 use mathlib.Core.Bool.{true, false}
 use mathlib.Core.List.{List, [], _∷_}
 use lib.ListN.{getD}
@@ -18,9 +18,10 @@ use Rattle.requests.specs.Request.{inRange, kindOf}
 use Rattle.building.specs.RequestWords.{commandWord, builtWords}
 use Rattle.building.specs.RequestWordLaws.{Clear, built-clear}
 use Rattle.readings.specs.Reader.{afterReply, done}
-use Rattle.trip.specs.Exchange.{rested, restNops, restBudget, Talk, talk, talked, talkBudget, exchanged}
-use Rattle.trip.specs.RestLaws.{comes-to-rest}
-use Rattle.trip.specs.ExchangeLaws.{exchange-comes-to}
+use Rattle.trip.specs.BroughtToRest.{rested, restNops, restBudget}
+use Rattle.trip.specs.TalkMirror.{talk, talked, talkBudget, fromCommand, exchanged}
+use Rattle.trip.specs.BroughtToRestLaws.{comes-to-rest}
+use Rattle.trip.specs.TalkLaws.{exchange-comes-to}
 
 -- ---- bringing to rest: n NOPs are sent
 pub record RestUnderway (n : ℕ) (s start : State) : Type 0 where
@@ -39,7 +40,8 @@ unfolding rested
 more-to-rest zero s t h = let z : true ≡ false = sym h ∙ t in let y : _≡_ {A = ℕ} 0 1 = cc in omega arith
 more-to-rest (suc k) s t h = omega arith
 
-rest-more : (k : ℕ) (s : State) → atRest (s .place .phase) ≡ false → (rested (suc k) s ≡ rested k (stepped s 0)) × (restNops (suc k) s ≡ suc (restNops k (stepped s 0)))
+rest-more : (k : ℕ) (s : State) → atRest (s .place .phase) ≡ false
+    → (rested (suc k) s ≡ rested k (stepped s 0)) × (restNops (suc k) s ≡ suc (restNops k (stepped s 0)))
 unfolding rested restNops
 rest-more k s t = rw t (refl, refl)
 
@@ -62,15 +64,13 @@ unfolding rested restNops
 rest-stays zero s t = (refl, refl)
 rest-stays (suc k) s t = rw t (refl, refl)
 
-pub rest-is-reached : {n : ℕ} {s start : State} → RestUnderway n s start → atRest (s .place .phase) ≡ true → (s ≡ rested restBudget start) × (n ≡ restNops restBudget start)
+pub rest-is-reached : {n : ℕ} {s start : State} → RestUnderway n s start → atRest (s .place .phase) ≡ true
+    → (s ≡ rested restBudget start) × (n ≡ restNops restBudget start)
 rest-is-reached {n} {s} u t =
     let stays = rest-stays (restBudget - n) s t in
     (sym (stays .0) ∙ u .state, omega (arith, stays .1, u .count))
 
 -- ---- sending and reading: so many packets of the request are sent
-abbrev pub fromCommand : Request → State → Talk
-fromCommand request s = talked talkBudget request 1 First s
-
 pub record TalkUnderway (request : Request) (sent : ℕ) (reader : Reader) (s start : State) : Type 0 where
   pub begun : 1 ≤ sent
   pub within : sent ≤ talkBudget + 1
@@ -81,38 +81,40 @@ pub record TalkUnderway (request : Request) (sent : ℕ) (reader : Reader) (s st
 pub talk-begins : {request : Request} {s : State} → Sound s → done (fromCommand request s .reader) ≡ true → TalkUnderway request 1 First s s
 talk-begins f h = record { begun = omega arith; within = omega arith; sound = f; talk = refl; closes = h }
 
-more-to-say : (k : ℕ) (request : Request) (sent : ℕ) (reader : Reader) (s : State) → done reader ≡ false → done (talked k request sent reader s .reader) ≡ true → 1 ≤ k
-unfolding talked
-more-to-say zero request sent reader s t h = let z : true ≡ false = sym h ∙ t in let y : _≡_ {A = ℕ} 0 1 = cc in omega arith
-more-to-say (suc k) request sent reader s t h = omega arith
+module _ {request : Request} {sent : ℕ} {reader : Reader} {s start : State} (u : TalkUnderway request sent reader s start) where
+  -- the packet that is sent next, and what the reader is after the reply to it
+  talk-more : (k : ℕ) → done reader ≡ false
+      → talked (suc k) request sent reader s
+      ≡ talked k request (suc sent) (afterReply (kindOf request) reader (replyNow (s .place))) (stepped s (getD (builtWords request) sent 0))
+  unfolding talked
+  talk-more k t = rw t
 
-talk-more : (k : ℕ) (request : Request) (sent : ℕ) (reader : Reader) (s : State) → done reader ≡ false
-    → talked (suc k) request sent reader s ≡ talked k request (suc sent) (afterReply (kindOf request) reader (replyNow (s .place))) (stepped s (getD (builtWords request) sent 0))
-unfolding talked
-talk-more k request sent reader s t = rw t
+  more-to-say : (k : ℕ) → done reader ≡ false → done (talked k request sent reader s .reader) ≡ true → 1 ≤ k
+  unfolding talked
+  more-to-say zero t h = let z : true ≡ false = sym h ∙ t in let y : _≡_ {A = ℕ} 0 1 = cc in omega arith
+  more-to-say (suc k) t h = omega arith
 
-pub talk-goes-on : {request : Request} {sent : ℕ} {reader : Reader} {s start : State} → TalkUnderway request sent reader s start → done reader ≡ false
-    → TalkUnderway request (sent + 1) (afterReply (kindOf request) reader (replyNow (s .place))) (stepped s (getD (builtWords request) sent 0)) start
-talk-goes-on {request} {sent} {reader} {s} u t =
-    let more : 1 ≤ talkBudget + 1 - sent = more-to-say (talkBudget + 1 - sent) request sent reader s t (rw (u .talk) (u .closes)) in
-    let k = talkBudget + 1 - (sent + 1) in
-    let budget : talkBudget + 1 - sent ≡ suc k = omega arith in
-    record {
-      begun = omega arith;
-      within = omega arith;
-      sound = packet-keeps-sound (u .sound) (getD (builtWords request) sent 0);
-      talk = ap (λ i. talked k request i (afterReply (kindOf request) reader (replyNow (s .place))) (stepped s (getD (builtWords request) sent 0))) (add-one sent) ∙ sym (talk-more k request sent reader s t) ∙ (rw budget at (u .talk));
-      closes = u .closes;
-    }
+  pub talk-goes-on : done reader ≡ false
+      → TalkUnderway request (sent + 1) (afterReply (kindOf request) reader (replyNow (s .place))) (stepped s (getD (builtWords request) sent 0)) start
+  talk-goes-on t =
+      let more : 1 ≤ talkBudget + 1 - sent = more-to-say (talkBudget + 1 - sent) t (rw (u .talk) (u .closes)) in
+      let k = talkBudget + 1 - suc sent in
+      let budget : talkBudget + 1 - sent ≡ suc k = omega arith in
+      record {
+        begun = omega arith;
+        within = omega arith;
+        sound = packet-keeps-sound (u .sound) (getD (builtWords request) sent 0);
+        talk = rw (add-one sent) (sym (talk-more k t) ∙ (rw budget at (u .talk)));
+        closes = u .closes;
+      }
 
-talk-stays : (k : ℕ) (request : Request) (sent : ℕ) (reader : Reader) (s : State) → done reader ≡ true → talked k request sent reader s ≡ talk reader s sent
-unfolding talked
-talk-stays zero request sent reader s t = refl
-talk-stays (suc k) request sent reader s t = rw t
+  talk-stays : (k : ℕ) → done reader ≡ true → talked k request sent reader s ≡ talk reader s sent
+  unfolding talked
+  talk-stays zero t = refl
+  talk-stays (suc k) t = rw t
 
-pub talk-is-closed : {request : Request} {sent : ℕ} {reader : Reader} {s start : State} → TalkUnderway request sent reader s start → done reader ≡ true
-    → talk reader s sent ≡ fromCommand request start
-talk-is-closed {request} {sent} {reader} {s} u t = sym (talk-stays (talkBudget + 1 - sent) request sent reader s t) ∙ u .talk
+  pub talk-is-closed : done reader ≡ true → talk reader s sent ≡ fromCommand request start
+  talk-is-closed t = sym (talk-stays (talkBudget + 1 - sent) t) ∙ u .talk
 
 -- a request in range, from a sound state at rest, closes
 pub exchange-closes : (request : Request) {s : State} → inRange request ≡ true → Sound s → atRest (s .place .phase) ≡ true

@@ -28,8 +28,8 @@ use Rattle.readings.specs.Reader.{afterReply, afterReplies, done, used}
 use Rattle.building.specs.RequestWordLaws.{Clear}
 use Rattle.pod_laws.specs.ReplyLaws.{after-byte, after-word, after-upper, after-lower}
 use Rattle.trip.specs.Meaning.{Scene}
-use Rattle.trip.specs.Exchange.{nops, resting, closingReplies}
-use Rattle.trip.specs.StepLaws.{under, waits-none, waits-more, due-more, operand-taken, wait-taken, nop-at-rest}
+use Rattle.trip.specs.RoundTrip.{nops, resting, closingReplies}
+use Rattle.trip.specs.PacketTakenLaws.{under, waits-none, waits-more, due-more, operand-taken, wait-taken, nop-at-rest}
 
 pub record Closes (kind : ResultKind) (words : List ℕ) (reader : Reader) (s : State) (outcome : Outcome) (final : State) : Type 0 where
   -- the replies to the words bring the outcome
@@ -81,7 +81,8 @@ low-leaves : (s : Scene) (v : ℕ) → stepped (worked (TwoWords v) s) 0 ≡ res
 unfolding stepped planFor
 low-leaves s v = refl
 
-pub told : (kind : ResultKind) (e : Ending) (s : Scene) → Fits kind e → Closes kind (nops (closingReplies kind (outcomeOf e))) First (worked e s) (outcomeOf e) (resting s complete)
+pub told : (kind : ResultKind) (e : Ending) (s : Scene) → Fits kind e
+    → Closes kind (nops (closingReplies kind (outcomeOf e))) First (worked e s) (outcomeOf e) (resting s complete)
 unfolding replyNow
 told NoResult Completed s f = last NoResult First s complete Complete refl refl
 told NoResult Failed s f = last NoResult First s busError BusError refl refl

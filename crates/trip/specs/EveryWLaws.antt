@@ -14,7 +14,7 @@ use Rattle.requests.specs.declared.Request.the-variants.{Rdreg, Wdreg, Read, Wr
 use Rattle.readings.specs.declared.Outcome.the-variants.{Complete}
 use Rattle.pod_laws.specs.MeantCommand.{debugRows}
 use Rattle.trip.specs.Meaning.{Scene, Meaning, ends, meaning, reads, writes}
-use Rattle.trip.specs.Exchange.{legalThere}
+use Rattle.trip.specs.RoundTrip.{legalThere}
 use Rattle.laws.specs.Tests.{by-test}
 
 -- the same with another wait setting

@@ -3,7 +3,7 @@ use Prim.Native.Nat.{ℕ, _*_, _+_, _%_}
 use native.Mathlib.Omega.{arith}
 use native.Mathlib.Nat.{div-add-mod'}
 use mathlib.Core.Path.{_≡_, refl}
-use mathlib.Core.Bool.{Bool, true, false, not, _||_}
+use mathlib.Core.Bool.{true, false, not, _||_}
 use borrow.Author.Tests.{leb-true}
 use Rattle.memory.specs.declared.Size.the-variants.{Byte, Word, Long}
 use Rattle.command.specs.declared.Command.{Command}
@@ -22,9 +22,9 @@ use Rattle.pod_laws.specs.MeantCommand.{commandOf}
 use Rattle.pod_laws.specs.MeantCommandLaws.{decoded-as-meant}
 use Rattle.pod_laws.specs.RequestCountLaws.{found-rdmreg, operand-count}
 use Rattle.trip.specs.Meaning.{Scene, meaning}
-use Rattle.trip.specs.Exchange.{standingIn, legalThere}
-use Rattle.trip.specs.ClosingLaws.{taken}
-use Rattle.trip.specs.WorkLaws.{Meant, load-meant, store-meant, read-control-meant, write-control-meant, csr-fits, debug-meant}
+use Rattle.trip.specs.RoundTrip.{standingIn, legalThere}
+use Rattle.trip.specs.ClosesLaws.{taken}
+use Rattle.trip.specs.MeantWorkLaws.{Meant, load-meant, store-meant, read-control-meant, write-control-meant, csr-fits, debug-meant}
 
 -- a legal word is a command's
 no-command : (c : Command) (s : Standing) → legalCommand c s ≡ true → c ≡ Unknown → ⊥
