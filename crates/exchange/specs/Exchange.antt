@@ -1,6 +1,6 @@
 -- The exchange (01, Packets, and by eye): what is refused, what its answer says on paper, and the promise: for every input its answer, the board, the place
 -- and each byte of memory.
-use Prim.Native.Nat.{ℕ, _+_}
+use Prim.Native.Nat.{ℕ}
 use mathlib.Core.Path.{_≡_}
 use mathlib.Core.List.{List, [], _∷_}
 use lib.Dec.{leb}
@@ -14,8 +14,8 @@ use Rattle.board.specs.State.{State, stateOf}
 use Rattle.requests.specs.declared.Request.{Request}
 use Rattle.requests.specs.Request.{inRange}
 use Rattle.readings.specs.Reading.{outcomeReply, outcomeValue}
-use Rattle.trip.specs.RoundTrip.{outcomeThere, stateThere, packetsThere}
-use Rattle.trip.specs.BroughtToRest.{restScene, restPackets}
+use Rattle.round_trip.specs.RoundTrip.{outcomeThere, stateThere}
+use Rattle.round_trip.specs.BroughtToRest.{restScene, packetsFrom}
 use Rattle.exchange.specs.declared.Exchanged.{Exchanged}
 use Rattle.exchange.specs.declared.Exchanged.the-variants.{Ended, Refused as RefusedToExchange}
 use Rattle.exchange.specs.declared.Returned.{Returned}
@@ -29,9 +29,9 @@ exchangeVerdict request s =
     ∷ check (leb (length (s .memory)) 65536) MemoryTooLong
     ∷ [])
 
--- the request's outcome there and the packets: the NOPs to rest, and the request's own
+-- the request's outcome there, and all packets
 abbrev pub endedThere : Request → State → Exchanged
-endedThere request s = Ended (outcomeThere request (restScene s)) (restPackets s + packetsThere request (restScene s))
+endedThere request s = Ended (outcomeThere request (restScene s)) (packetsFrom request s)
 
 abbrev pub answeredAs : Verdict → Exchanged → Exchanged
 answeredAs Accepted ended = ended
@@ -48,8 +48,12 @@ abbrev pub toldExchange : Exchanged → ExchangeTold
 toldExchange (Ended outcome packets) = record { refusal = noRefusal; reply = outcomeReply outcome; value = outcomeValue outcome; packets = packets }
 toldExchange (RefusedToExchange ground) = record { refusal = refusalOf ground; reply = 0; value = 0; packets = 0 }
 
+-- what the request leaves; "state, memory and result buffers stay as given" where it is refused
+abbrev pub exchangeLeaves : Request → State → State
+exchangeLeaves request s = ifAccepted (exchangeVerdict request s) (stateThere request (restScene s)) s
+
 pub record ExchangeMeets (request : Request) (s : State) (r : Returned) (after : List ℕ) : Type 0 where
   -- the refusal, or the outcome and the packets sent
   pub answer : toldExchange (r .answer) ≡ toldExchange (answeredAs (exchangeVerdict request s) (endedThere request s))
-  -- the board, the place and memory as the request leaves them; as given where it is refused
-  pub state : stateOf (r .board) (r .place) after ≡ ifAccepted (exchangeVerdict request s) (stateThere request (restScene s)) s
+  -- the board, the place and memory
+  pub state : stateOf (r .board) (r .place) after ≡ exchangeLeaves request s

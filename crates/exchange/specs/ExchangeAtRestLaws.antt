@@ -19,12 +19,12 @@ use Rattle.requests.specs.declared.Request.{Request}
 use Rattle.requests.specs.declared.Request.the-variants.{Read, Write}
 use Rattle.readings.specs.declared.Outcome.the-variants.{Value}
 use Rattle.requests.specs.Request.{dataInRange, inRange}
-use Rattle.trip.specs.Meaning.{Scene, meaning}
-use Rattle.trip.specs.RoundTrip.{resting, sceneOf, legalThere, stateThere, packetsThere}
-use Rattle.trip.specs.BroughtToRest.{restBudget, restScene, restPackets}
-use Rattle.trip.specs.UnderwayLaws.{rest-stays}
-use Rattle.trip.specs.WriteReadLaws.{write-then-read}
-use Rattle.trip.specs.NextRequestLaws.{left-sound}
+use Rattle.round_trip.specs.Meaning.{Scene, meaning}
+use Rattle.round_trip.specs.RoundTrip.{resting, sceneOf, legalThere, stateThere, packetsThere}
+use Rattle.round_trip.specs.BroughtToRest.{restBudget, restScene, restPackets}
+use Rattle.round_trip.specs.UnderwayLaws.{rest-stays}
+use Rattle.round_trip.specs.WriteReadLaws.{write-then-read}
+use Rattle.round_trip.specs.NextRequestLaws.{left-sound}
 use Rattle.exchange.specs.declared.Exchanged.the-variants.{Ended}
 use Rattle.exchange.specs.declared.Returned.{Returned}
 use Rattle.exchange.specs.Exchange.{exchangeVerdict, ExchangeMeets}

@@ -18,11 +18,11 @@ use Rattle.sound.specs.Sound.{Sound}
 use Rattle.requests.specs.declared.Request.{Request}
 use Rattle.readings.specs.declared.Reader.{Reader}
 use Rattle.requests.specs.Request.{inRange}
-use Rattle.trip.specs.RoundTrip.{stateThere}
-use Rattle.trip.specs.BroughtToRest.{rested, restBudget, restScene, restPackets}
-use Rattle.trip.specs.TalkMirror.{Talk, talk, exchanged}
-use Rattle.trip.specs.BroughtToRestLaws.{comes-to-rest, rest-keeps-sound, rest-nops-bound}
-use Rattle.trip.specs.TalkLaws.{exchange-from-anywhere, packets-bound}
+use Rattle.round_trip.specs.RoundTrip.{stateThere}
+use Rattle.round_trip.specs.BroughtToRest.{rested, restBudget, restScene, restPackets}
+use Rattle.round_trip.specs.TalkMirror.{Talk, talk, exchanged}
+use Rattle.round_trip.specs.BroughtToRestLaws.{comes-to-rest, rest-keeps-sound, rest-nops-bound}
+use Rattle.round_trip.specs.TalkLaws.{exchange-from-anywhere, packets-bound}
 use Rattle.exchange.specs.Exchange.{exchangeVerdict, endedThere}
 use Rattle.exchange.specs.ExchangeMirror.{answerOf}
 

@@ -5,8 +5,8 @@ use native.Mathlib.Omega.{arith}
 use borrow.Author.Needs.{needs}
 use lib.ListN.{length}
 use Rattle.board.specs.State.{stateOf}
-use Rattle.trip.specs.BroughtToRest.{restBudget}
-use Rattle.trip.specs.UnderwayLaws.{RestUnderway, rest-begins, rest-goes-on, rest-is-reached}
+use Rattle.round_trip.specs.BroughtToRest.{restBudget}
+use Rattle.round_trip.specs.UnderwayLaws.{RestUnderway, rest-begins, rest-goes-on, rest-is-reached}
 use Rattle.exchange.proofs.talk.bring_to_rest.Statement.{statement}
 use Rattle.exchange.proofs.talk.bring_to_rest.Tie as tie
 

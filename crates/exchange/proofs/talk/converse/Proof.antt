@@ -3,8 +3,8 @@ use Rattle.board.specs.State.{stateOf}
 use Rattle.step.specs.Step.{stepped}
 use Rattle.sound.specs.SoundLaws.{packet-keeps-sound}
 use Rattle.building.specs.RequestWords.{commandWord}
-use Rattle.trip.specs.TalkMirror.{exchanged, fromCommand}
-use Rattle.trip.specs.UnderwayLaws.{sent-clear, exchange-closes}
+use Rattle.round_trip.specs.TalkMirror.{exchanged, fromCommand}
+use Rattle.round_trip.specs.UnderwayLaws.{sent-clear, exchange-closes}
 use Rattle.exchange.specs.SendingLaws.{built-then-nops}
 use borrow.Author.Needs.{needs}
 use Rattle.exchange.proofs.talk.converse.Statement.{statement}

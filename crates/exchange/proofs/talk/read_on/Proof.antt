@@ -5,8 +5,8 @@ use borrow.Author.Needs.{needs}
 use lib.ListN.{length}
 use Rattle.board.specs.State.{stateOf}
 use Rattle.step.specs.Step.{stepped}
-use Rattle.trip.specs.TalkMirror.{talkBudget}
-use Rattle.trip.specs.UnderwayLaws.{TalkUnderway, talk-begins, talk-goes-on, talk-is-closed, sent-clear}
+use Rattle.round_trip.specs.TalkMirror.{talkBudget}
+use Rattle.round_trip.specs.UnderwayLaws.{TalkUnderway, talk-begins, talk-goes-on, talk-is-closed, sent-clear}
 use Rattle.exchange.specs.SendingLaws.{not-so, so-after-all}
 use Rattle.exchange.proofs.talk.read_on.Statement.{statement}
 use Rattle.exchange.proofs.talk.read_on.Tie as tie

@@ -15,7 +15,7 @@ use Rattle.requests.specs.declared.Request.the-variants.{Read, Write}
 use Rattle.readings.specs.declared.Outcome.the-variants.{Value, Complete}
 use Rattle.requests.specs.Request.{dataInRange, inRange}
 use Rattle.laws.specs.Tests.{both-hold}
-use Rattle.trip.specs.Meaning.{Scene, meaning}
+use Rattle.round_trip.specs.Meaning.{Scene, meaning}
 
 -- ---- the bytes of a store are fetched back
 module _ (m : List ℕ) (at v : ℕ) where

@@ -23,8 +23,8 @@ use Rattle.plan.specs.PlanLaws.{nop-plan}
 use Rattle.board.specs.Setters.{placeWith}
 use Rattle.board.specs.State.{State, stateOf}
 use Rattle.step.specs.Step.{chainDuring, left, planFor, stepped}
-use Rattle.trip.specs.Meaning.{Scene}
-use Rattle.trip.specs.RoundTrip.{resting, unchained, standingIn}
+use Rattle.round_trip.specs.Meaning.{Scene}
+use Rattle.round_trip.specs.RoundTrip.{resting, unchained, standingIn}
 
 during-during : (c : Command) (chain : Chain) → chainDuring c (chainDuring c chain) ≡ chainDuring c chain
 during-during Unknown chain = refl

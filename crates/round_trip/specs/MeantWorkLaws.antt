@@ -30,9 +30,9 @@ use Rattle.requests.specs.declared.ResultKind.the-variants.{NoResult, OfSize}
 use Rattle.readings.specs.declared.Outcome.the-variants.{Value, Complete}
 use Rattle.pod_laws.specs.MeantCommand.{debugRows}
 use Rattle.pod_laws.specs.RequestCountLaws.{found-debug}
-use Rattle.trip.specs.Meaning.{Scene, Meaning, meaning, ends, reads, writes, readsControl, writesControl}
-use Rattle.trip.specs.RoundTrip.{sceneOf}
-use Rattle.trip.specs.ClosesLaws.{outcomeOf, Fits}
+use Rattle.round_trip.specs.Meaning.{Scene, Meaning, meaning, ends, reads, writes, readsControl, writesControl}
+use Rattle.round_trip.specs.RoundTrip.{sceneOf}
+use Rattle.round_trip.specs.ClosesLaws.{outcomeOf, Fits}
 use Rattle.laws.specs.Tests.{by-test}
 
 -- what the port's work ends in, and what it leaves

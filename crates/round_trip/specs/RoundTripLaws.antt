@@ -22,12 +22,12 @@ use Rattle.pod_laws.specs.MeantCommand.{commandOf}
 use Rattle.pod_laws.specs.MeantCommandLaws.{decoded-as-meant}
 use Rattle.pod_laws.specs.RequestCountLaws.{operand-count}
 use Rattle.pod_laws.specs.NotYetLaws.{not-yet-until}
-use Rattle.trip.specs.Meaning.{Scene, meaning}
-use Rattle.trip.specs.RoundTrip.{nops, resting, legalThere, legalLeaves, secondWord, illegalLeaves, closingReplies, nopsThere, wordsThere, Trip}
-use Rattle.trip.specs.PacketTakenLaws.{due-none, command-taken, illegal-taken}
-use Rattle.trip.specs.ClosesLaws.{Closes, told, taken, waited, operands-taken}
-use Rattle.trip.specs.MeantWorkLaws.{Sized, workEnding, workScene}
-use Rattle.trip.specs.MeaningLaws.{legal-is-known, addressSent, valueSent, work-is-meant}
+use Rattle.round_trip.specs.Meaning.{Scene, meaning}
+use Rattle.round_trip.specs.RoundTrip.{nops, resting, legalThere, legalLeaves, secondWord, illegalLeaves, closingReplies, nopsThere, wordsThere, Trip}
+use Rattle.round_trip.specs.PacketTakenLaws.{due-none, command-taken, illegal-taken}
+use Rattle.round_trip.specs.ClosesLaws.{Closes, told, taken, waited, operands-taken}
+use Rattle.round_trip.specs.MeantWorkLaws.{Sized, workEnding, workScene}
+use Rattle.round_trip.specs.MeaningLaws.{legal-is-known, addressSent, valueSent, work-is-meant}
 
 -- ---- legal
 module _ (request : Request) (s : Scene) (next : ℕ) (h : inRange request ≡ true) (l : legalThere request s ≡ true) (z : Sized s) where

@@ -13,8 +13,8 @@ use Rattle.requests.specs.declared.Request.{Request}
 use Rattle.requests.specs.declared.Request.the-variants.{Rdreg, Wdreg, Read, Write, Dump, Fill, Go, Nop, SyncPc, Rcreg, Wcreg, Rdmreg, Wdmreg}
 use Rattle.readings.specs.declared.Outcome.the-variants.{Complete}
 use Rattle.pod_laws.specs.MeantCommand.{debugRows}
-use Rattle.trip.specs.Meaning.{Scene, Meaning, ends, meaning, reads, writes}
-use Rattle.trip.specs.RoundTrip.{legalThere}
+use Rattle.round_trip.specs.Meaning.{Scene, Meaning, ends, meaning, reads, writes}
+use Rattle.round_trip.specs.RoundTrip.{legalThere}
 use Rattle.laws.specs.Tests.{by-test}
 
 -- the same with another wait setting

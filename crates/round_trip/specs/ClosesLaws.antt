@@ -27,9 +27,9 @@ use Rattle.readings.specs.declared.Reader.the-variants.{First, Second, Closed}
 use Rattle.readings.specs.Reader.{afterReply, afterReplies, done, used}
 use Rattle.building.specs.RequestWordLaws.{Clear}
 use Rattle.pod_laws.specs.ReplyLaws.{after-byte, after-word, after-upper, after-lower}
-use Rattle.trip.specs.Meaning.{Scene}
-use Rattle.trip.specs.RoundTrip.{nops, resting, closingReplies}
-use Rattle.trip.specs.PacketTakenLaws.{under, waits-none, waits-more, due-more, operand-taken, wait-taken, nop-at-rest}
+use Rattle.round_trip.specs.Meaning.{Scene}
+use Rattle.round_trip.specs.RoundTrip.{nops, resting, closingReplies}
+use Rattle.round_trip.specs.PacketTakenLaws.{under, waits-none, waits-more, due-more, operand-taken, wait-taken, nop-at-rest}
 
 pub record Closes (kind : ResultKind) (words : List ℕ) (reader : Reader) (s : State) (outcome : Outcome) (final : State) : Type 0 where
   -- the replies to the words bring the outcome

@@ -18,14 +18,14 @@ use Rattle.building.specs.RequestWords.{commandWord, operands}
 use Rattle.readings.specs.Reader.{afterReplies, done}
 use Rattle.readings.specs.Reading.{reading, readingOf}
 use Rattle.pod_laws.specs.NotYetLaws.{further-replies}
-use Rattle.trip.specs.Meaning.{Scene, Meaning, meaning}
-use Rattle.trip.specs.RoundTrip.{nops, resting, legalThere, legalLeaves, nopsThere, wordsThere, laterReplies}
-use Rattle.trip.specs.PacketTakenLaws.{nop-at-rest}
-use Rattle.trip.specs.RoundTripLaws.{legal-closes, round-trip}
-use Rattle.trip.specs.MeantWorkLaws.{Sized, sound-is-sized}
+use Rattle.round_trip.specs.Meaning.{Scene, Meaning, meaning}
+use Rattle.round_trip.specs.RoundTrip.{nops, resting, legalThere, legalLeaves, nopsThere, wordsThere, laterReplies}
+use Rattle.round_trip.specs.PacketTakenLaws.{nop-at-rest}
+use Rattle.round_trip.specs.RoundTripLaws.{legal-closes, round-trip}
+use Rattle.round_trip.specs.MeantWorkLaws.{Sized, sound-is-sized}
 
 -- ---- more NOPs
-ran-append : (xs ys : List ℕ) (s : State) → ran (xs ++ ys) s ≡ ran ys (ran xs s)
+pub ran-append : (xs ys : List ℕ) (s : State) → ran (xs ++ ys) s ≡ ran ys (ran xs s)
 unfolding ran
 ran-append [] ys s = refl
 ran-append (x ∷ xs) ys s = ran-append xs ys (stepped s x)

@@ -1,11 +1,12 @@
--- Packets (01), and by eye: a board not at rest "brought to rest first with NOPs", and these counted.
-use Prim.Native.Nat.{ℕ, zero, suc}
+-- Packets (01), and by eye: a board not at rest "is brought to rest first with NOPs, and these are counted".
+use Prim.Native.Nat.{ℕ, zero, suc, _+_}
 use mathlib.Core.Bool.{cond}
 use Rattle.board.specs.Board.{atRest}
 use Rattle.board.specs.State.{State}
 use Rattle.step.specs.Step.{stepped}
-use Rattle.trip.specs.Meaning.{Scene}
-use Rattle.trip.specs.RoundTrip.{sceneOf}
+use Rattle.requests.specs.declared.Request.{Request}
+use Rattle.round_trip.specs.Meaning.{Scene}
+use Rattle.round_trip.specs.RoundTrip.{sceneOf, packetsThere}
 
 -- within a budget
 unfoldable pub rested : ℕ → State → State
@@ -26,3 +27,7 @@ restScene s = sceneOf (rested restBudget s)
 
 abbrev pub restPackets : State → ℕ
 restPackets s = restNops restBudget s
+
+-- all packets of a request from there: the NOPs to rest, and the request's own
+abbrev pub packetsFrom : Request → State → ℕ
+packetsFrom request s = restPackets s + packetsThere request (restScene s)

@@ -12,5 +12,6 @@ pub mod TalkLaws
 pub mod UnderwayLaws
 pub mod WriteReadLaws
 pub mod NextRequestLaws
+pub mod WholeRunLaws
 pub mod EveryWLaws
 pub mod MeaningExamples

@@ -14,8 +14,8 @@ use Rattle.sound.specs.Sound.{Sound}
 use Rattle.sound.specs.SoundLaws.{packet-keeps-board, packet-keeps-sound}
 use Rattle.rest.specs.ToGoLaws.{toGo, to-go-at-most, none-to-go, some-to-go}
 use Rattle.rest.specs.NopLaws.{nop-takes-one-off}
-use Rattle.trip.specs.RoundTrip.{nops, resting, sceneOf}
-use Rattle.trip.specs.BroughtToRest.{rested, restNops, restBudget, restPackets}
+use Rattle.round_trip.specs.RoundTrip.{nops, resting, sceneOf}
+use Rattle.round_trip.specs.BroughtToRest.{rested, restNops, restBudget, restPackets}
 use Rattle.laws.specs.Tests.{by-test}
 
 nop-leaves : {s : State} → Sound s → toGo (stepped s 0 .board .w) (stepped s 0 .place .phase) ≤ toGo (s .board .w) (s .place .phase) - 1

@@ -15,9 +15,9 @@ use Rattle.step.specs.Step.{replyNow, planFor, stepped}
 use Rattle.run.specs.Run.{ran}
 use Rattle.requests.specs.declared.Request.the-variants.{Read, Write, Dump, Fill, Rcreg, Rdmreg}
 use Rattle.readings.specs.declared.Outcome.the-variants.{Value, BusError, Illegal}
-use Rattle.trip.specs.Meaning.{Scene, meaning}
-use Rattle.trip.specs.RoundTrip.{outcomeThere, packetsThere}
-use Rattle.trip.specs.BroughtToRest.{restNops, restBudget}
+use Rattle.round_trip.specs.Meaning.{Scene, meaning}
+use Rattle.round_trip.specs.RoundTrip.{outcomeThere, packetsThere}
+use Rattle.round_trip.specs.BroughtToRest.{restNops, restBudget}
 
 abbrev sixteen : List ℕ
 sixteen = 0 ∷ 1 ∷ 2 ∷ 3 ∷ 4 ∷ 5 ∷ 6 ∷ 7 ∷ 8 ∷ 9 ∷ 10 ∷ 11 ∷ 12 ∷ 13 ∷ 14 ∷ 15 ∷ []

@@ -18,10 +18,10 @@ use Rattle.requests.specs.Request.{inRange, kindOf}
 use Rattle.building.specs.RequestWords.{commandWord, builtWords}
 use Rattle.building.specs.RequestWordLaws.{Clear, built-clear}
 use Rattle.readings.specs.Reader.{afterReply, done}
-use Rattle.trip.specs.BroughtToRest.{rested, restNops, restBudget}
-use Rattle.trip.specs.TalkMirror.{talk, talked, talkBudget, fromCommand, exchanged}
-use Rattle.trip.specs.BroughtToRestLaws.{comes-to-rest}
-use Rattle.trip.specs.TalkLaws.{exchange-comes-to}
+use Rattle.round_trip.specs.BroughtToRest.{rested, restNops, restBudget}
+use Rattle.round_trip.specs.TalkMirror.{talk, talked, talkBudget, fromCommand, exchanged}
+use Rattle.round_trip.specs.BroughtToRestLaws.{comes-to-rest}
+use Rattle.round_trip.specs.TalkLaws.{exchange-comes-to}
 
 -- ---- bringing to rest: n NOPs are sent
 pub record RestUnderway (n : ℕ) (s start : State) : Type 0 where

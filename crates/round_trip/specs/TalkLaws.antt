@@ -26,15 +26,15 @@ use Rattle.readings.specs.Reader.{afterReply, done}
 use Rattle.readings.specs.ReaderLaws.{done-uses-none}
 use Rattle.pod_laws.specs.MeantCommand.{commandOf}
 use Rattle.pod_laws.specs.RequestCountLaws.{word-count-bound}
-use Rattle.trip.specs.Meaning.{Scene, meaning}
-use Rattle.trip.specs.RoundTrip.{nops, resting, sceneOf, legalThere, outcomeThere, legalLeaves, secondWord, illegalLeaves, stateThere, closingReplies}
-use Rattle.trip.specs.RoundTrip.{nopsThere, packetsThere}
-use Rattle.trip.specs.BroughtToRest.{rested, restBudget, restScene}
-use Rattle.trip.specs.TalkMirror.{Talk, talk, talked, talkBudget, exchanged}
-use Rattle.trip.specs.ClosesLaws.{Closes}
-use Rattle.trip.specs.MeantWorkLaws.{Sized, sound-is-sized}
-use Rattle.trip.specs.RoundTripLaws.{legal-closes, illegal-closes}
-use Rattle.trip.specs.BroughtToRestLaws.{rest-is-resting, comes-to-rest, rest-keeps-sound}
+use Rattle.round_trip.specs.Meaning.{Scene, meaning}
+use Rattle.round_trip.specs.RoundTrip.{nops, resting, sceneOf, legalThere, outcomeThere, legalLeaves, secondWord, illegalLeaves, stateThere, closingReplies}
+use Rattle.round_trip.specs.RoundTrip.{nopsThere, packetsThere}
+use Rattle.round_trip.specs.BroughtToRest.{rested, restBudget, restScene}
+use Rattle.round_trip.specs.TalkMirror.{Talk, talk, talked, talkBudget, exchanged}
+use Rattle.round_trip.specs.ClosesLaws.{Closes}
+use Rattle.round_trip.specs.MeantWorkLaws.{Sized, sound-is-sized}
+use Rattle.round_trip.specs.RoundTripLaws.{legal-closes, illegal-closes}
+use Rattle.round_trip.specs.BroughtToRestLaws.{rest-is-resting, comes-to-rest, rest-keeps-sound}
 use Rattle.laws.specs.Tests.{by-test}
 
 -- ---- the words sent, one after the other
@@ -85,7 +85,7 @@ closing-bound kind Complete = omega arith
 closing-bound kind BusError = omega arith
 closing-bound kind Illegal = omega arith
 
-words-length : (words : List ℕ) (n : ℕ) → length (words ++ nops n) ≡ length words + n
+pub words-length : (words : List ℕ) (n : ℕ) → length (words ++ nops n) ≡ length words + n
 words-length words n = length-append words (nops n) ∙ ap (λ k. length words + k) (length-replicate n 0)
 
 nops-bound : (request : Request) (s : Scene) → s .board .w ≤ 15 → nopsThere request s ≤ 17

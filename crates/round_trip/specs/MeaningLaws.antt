@@ -21,10 +21,10 @@ use Rattle.laws.specs.Tests.{both-hold}
 use Rattle.pod_laws.specs.MeantCommand.{commandOf}
 use Rattle.pod_laws.specs.MeantCommandLaws.{decoded-as-meant}
 use Rattle.pod_laws.specs.RequestCountLaws.{found-rdmreg, operand-count}
-use Rattle.trip.specs.Meaning.{Scene, meaning}
-use Rattle.trip.specs.RoundTrip.{standingIn, legalThere}
-use Rattle.trip.specs.ClosesLaws.{taken}
-use Rattle.trip.specs.MeantWorkLaws.{Meant, load-meant, store-meant, read-control-meant, write-control-meant, csr-fits, debug-meant}
+use Rattle.round_trip.specs.Meaning.{Scene, meaning}
+use Rattle.round_trip.specs.RoundTrip.{standingIn, legalThere}
+use Rattle.round_trip.specs.ClosesLaws.{taken}
+use Rattle.round_trip.specs.MeantWorkLaws.{Meant, load-meant, store-meant, read-control-meant, write-control-meant, csr-fits, debug-meant}
 
 -- a legal word is a command's
 no-command : (c : Command) (s : Standing) → legalCommand c s ≡ true → c ≡ Unknown → ⊥

@@ -21,7 +21,7 @@ use Rattle.requests.specs.Request.{kindOf, kindWords}
 use Rattle.building.specs.RequestWords.{commandWord, operands, builtWords}
 use Rattle.readings.specs.Reading.{reading}
 use Rattle.pod_laws.specs.MeantCommand.{commandOf}
-use Rattle.trip.specs.Meaning.{Scene, meaning}
+use Rattle.round_trip.specs.Meaning.{Scene, meaning}
 
 -- a NOP is the word 0
 abbrev pub nops : ℕ → List ℕ
