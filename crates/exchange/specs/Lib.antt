@@ -1,6 +1,7 @@
 pub mod Exchange
-pub mod Typed
-pub mod Promise
-pub mod SendLaws
-pub mod ConverseLaws
-pub mod AtRest
+pub mod ExchangeMirror
+pub mod ExchangeUnique
+pub mod TypedLaws
+pub mod SendingLaws
+pub mod ExchangeLaws
+pub mod ExchangeAtRestLaws

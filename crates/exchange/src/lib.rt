@@ -1,15 +1,13 @@
 // The exchange (01, "Packets" and the pod's half): a request, a board and lent memory in; its outcome and the packets sent out.
 ghost use mathlib.Core.Path.{_≡_};
 ghost use mathlib.Core.Bool.{true};
-ghost use Prim.Native.Nat.{_+_};
-ghost use Rattle.port.specs.Run.{stateOf};
-ghost use Rattle.port.specs.Sound.{Sound};
+ghost use Rattle.board.specs.State.{stateOf};
+ghost use Rattle.sound.specs.Sound.{Sound};
 ghost use Rattle.requests.specs.Request.{inRange};
-ghost use Rattle.trip.specs.Exchange.{outcomeThere, stateThere, packetsThere};
-ghost use Rattle.exchange.specs.declared.Exchanged.the-variants.{Ended};
-ghost use Rattle.exchange.specs.Exchange.{answerOf, exchangeVerdict};
-ghost use Rattle.exchange.specs.Typed.{PhaseTyped, Typed};
-ghost use Rattle.exchange.specs.Promise.{restScene, restPackets, ExchangeMeets};
+ghost use Rattle.round_trip.specs.RoundTrip.{stateThere};
+ghost use Rattle.round_trip.specs.BroughtToRest.{restScene};
+ghost use Rattle.exchange.specs.Exchange.{exchangeVerdict, endedThere, ExchangeMeets};
+ghost use Rattle.exchange.specs.ExchangeMirror.{answerOf, PhaseTyped, Typed};
 use board::Board;
 use board::Phase;
 use board::Place;
@@ -47,7 +45,8 @@ fn answer_of(reader: Reader, packets: u32) -> Exchanged
 
 fn rest_and_converse(request: Request, board: Board, place: Place, memory: &mut [u8]) -> Returned
     requires { ⌜ Sound (stateOf board place (now memory)) × (inRange request ≡ true) ⌝ }
-    ensures { λ r. ⌜ (r .answer ≡ Ended (outcomeThere request (restScene board place (now (memory .entry)))) (restPackets board place (now (memory .entry)) + packetsThere request (restScene board place (now (memory .entry))))) × (stateOf (r .board) (r .place) (now (memory .exit)) ≡ stateThere request (restScene board place (now (memory .entry)))) ⌝ }
+    ensures { λ r. ⌜ (r .answer ≡ endedThere request (stateOf board place (now (memory .entry))))
+        × (stateOf (r .board) (r .place) (now (memory .exit)) ≡ stateThere request (restScene (stateOf board place (now (memory .entry))))) ⌝ }
 {
     let rested = talk::bring_to_rest(board, place, memory);
     let rest_board = rested.board;
@@ -76,14 +75,14 @@ fn note_phase(phase: Phase)
 
 // For the proof alone: what the types say of the numbers that are held.
 fn note_types(board: Board, place: Place, memory: &[u8])
-    ensures { λ _. ⌜ Typed board place (now (memory .entry)) ⌝ }
+    ensures { λ _. ⌜ Typed (stateOf board place (now (memory .entry))) ⌝ }
 {
     let phase = place.phase;
     note_phase(phase);
 }
 
 fn judge_exchange(request: Request, board: Board, place: Place, memory: &[u8]) -> Verdict
-    ensures { λ r. ⌜ r ≡ exchangeVerdict request board place (now (memory .entry)) ⌝ }
+    ensures { λ r. ⌜ r ≡ exchangeVerdict request (stateOf board place (now (memory .entry))) ⌝ }
 {
     if requests::is_in_range(request) {
         if board::is_in_range(board, place) {
@@ -98,10 +97,10 @@ fn judge_exchange(request: Request, board: Board, place: Place, memory: &[u8]) -
 }
 
 // A place that is not at rest is brought to rest with NOPs, which are counted. Then the request's words go out one by one, and NOPs after them, until a reply
-// closes the request. The reply to a word leaves with the next: so after an illegal command word one operand word has gone in before the pod knows, and the port
-// has taken it as a command word, which no pod can help; the place may then be left in any phase.
+// closes the request. The reply to a word leaves with the next: so after an illegal command word one operand word has gone in before the pod knows, and the
+// port has taken it as a command word, which no pod can help; the place may then be left in any phase.
 pub fn exchange(request: Request, board: Board, place: Place, memory: &mut [u8]) -> Returned
-    ensures { λ r. ⌜ ExchangeMeets request board place (now (memory .entry)) r (now (memory .exit)) ⌝ }
+    ensures { λ r. ⌜ ExchangeMeets request (stateOf board place (now (memory .entry))) r (now (memory .exit)) ⌝ }
 {
     note_types(board, place, memory);
     match judge_exchange(request, board, place, memory) {

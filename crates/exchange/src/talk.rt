@@ -4,14 +4,14 @@ ghost use mathlib.Core.Bool.{true};
 ghost use Prim.Native.Nat.{ℕ, _≤_};
 ghost use lib.ListN.{getD};
 ghost use Rattle.board.specs.Board.{atRest};
-ghost use Rattle.port.specs.Packets.{replyNow};
-ghost use Rattle.port.specs.Run.{stateOf, stepped};
-ghost use Rattle.port.specs.Sound.{Sound};
+ghost use Rattle.board.specs.State.{stateOf};
+ghost use Rattle.step.specs.Step.{replyNow, stepped};
+ghost use Rattle.sound.specs.Sound.{Sound};
 ghost use Rattle.requests.specs.Request.{inRange};
 ghost use Rattle.building.specs.RequestWords.{builtWords};
 ghost use Rattle.readings.specs.Reader.{done};
-ghost use Rattle.trip.specs.Exchange.{rested, restNops, restBudget, talk, exchanged};
-ghost use Rattle.trip.specs.Underway.{fromCommand};
+ghost use Rattle.round_trip.specs.BroughtToRest.{rested, restNops, restBudget};
+ghost use Rattle.round_trip.specs.TalkMirror.{talk, exchanged, fromCommand};
 use board::Board;
 use board::Phase;
 use board::Place;
@@ -42,7 +42,8 @@ pub struct Talked {
 
 fn send(board: Board, place: Place, memory: &mut [u8], word: u32) -> Sent
     requires { ⌜ Sound (stateOf board place (now memory)) × (word ≤ 0xFFFF) ⌝ }
-    ensures { λ r. ⌜ (r .reply ≡ replyNow place) × (stateOf (r .board) (r .place) (now (memory .exit)) ≡ stepped (stateOf board place (now (memory .entry))) word) ⌝ }
+    ensures { λ r. ⌜ (r .reply ≡ replyNow place)
+        × (stateOf (r .board) (r .place) (now (memory .exit)) ≡ stepped (stateOf board place (now (memory .entry))) word) ⌝ }
 {
     let answer = port::take_packet(board, place, memory, word);
     let outcome = answer.outcome;
@@ -77,7 +78,8 @@ fn is_resting(place: Place) -> bool
 
 pub fn bring_to_rest(board: Board, place: Place, memory: &mut [u8]) -> Rested
     requires { ⌜ Sound (stateOf board place (now memory)) ⌝ }
-    ensures { λ r. ⌜ (stateOf (r .board) (r .place) (now (memory .exit)) ≡ rested restBudget (stateOf board place (now (memory .entry)))) × (r .nops ≡ restNops restBudget (stateOf board place (now (memory .entry)))) ⌝ }
+    ensures { λ r. ⌜ (stateOf (r .board) (r .place) (now (memory .exit)) ≡ rested restBudget (stateOf board place (now (memory .entry))))
+        × (r .nops ≡ restNops restBudget (stateOf board place (now (memory .entry)))) ⌝ }
 {
     let mut b = board;
     let mut p = place;
@@ -106,8 +108,11 @@ fn word_at(words: &[u32], i: usize) -> u32
 
 // From the reply to the packet after the command word on.
 fn read_on(request: Request, words: &[u32], board: Board, place: Place, memory: &mut [u8]) -> Talked
-    requires { ⌜ Sound (stateOf board place (now memory)) × (inRange request ≡ true) × (done (fromCommand request (stateOf board place (now memory)) .reader) ≡ true) × ((i : ℕ) → getD (now words) i 0 ≡ getD (builtWords request) i 0) ⌝ }
-    ensures { λ r. ⌜ talk (r .reader) (stateOf (r .board) (r .place) (now (memory .exit))) (r .packets) ≡ fromCommand request (stateOf board place (now (memory .entry))) ⌝ }
+    requires { ⌜ Sound (stateOf board place (now memory)) × (inRange request ≡ true)
+        × (done (fromCommand request (stateOf board place (now memory)) .reader) ≡ true)
+        × ((i : ℕ) → getD (now words) i 0 ≡ getD (builtWords request) i 0) ⌝ }
+    ensures { λ r. ⌜ talk (r .reader) (stateOf (r .board) (r .place) (now (memory .exit))) (r .packets)
+        ≡ fromCommand request (stateOf board place (now (memory .entry))) ⌝ }
 {
     let mut reader = Reader::First;
     let mut packets = 1;
@@ -131,7 +136,8 @@ fn read_on(request: Request, words: &[u32], board: Board, place: Place, memory: 
 
 pub fn converse(request: Request, board: Board, place: Place, memory: &mut [u8]) -> Talked
     requires { ⌜ Sound (stateOf board place (now memory)) × (inRange request ≡ true) × (atRest (place .phase) ≡ true) ⌝ }
-    ensures { λ r. ⌜ talk (r .reader) (stateOf (r .board) (r .place) (now (memory .exit))) (r .packets) ≡ exchanged request (stateOf board place (now (memory .entry))) ⌝ }
+    ensures { λ r. ⌜ talk (r .reader) (stateOf (r .board) (r .place) (now (memory .exit))) (r .packets)
+        ≡ exchanged request (stateOf board place (now (memory .entry))) ⌝ }
 {
     let mut words = [0u32; 5];
     building::build(request, &mut words);

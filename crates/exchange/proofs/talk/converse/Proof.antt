@@ -1,10 +1,11 @@
 use mathlib.Core.Path.{ap, _∙_}
-use Rattle.port.specs.Run.{stateOf, stepped}
-use Rattle.port.specs.SoundLaws.{packet-keeps-sound}
+use Rattle.board.specs.State.{stateOf}
+use Rattle.step.specs.Step.{stepped}
+use Rattle.sound.specs.SoundLaws.{packet-keeps-sound}
 use Rattle.building.specs.RequestWords.{commandWord}
-use Rattle.trip.specs.Exchange.{exchanged}
-use Rattle.trip.specs.Underway.{fromCommand, sent-clear, exchange-closes}
-use Rattle.exchange.specs.SendLaws.{built-then-nops}
+use Rattle.round_trip.specs.TalkMirror.{exchanged, fromCommand}
+use Rattle.round_trip.specs.UnderwayLaws.{sent-clear, exchange-closes}
+use Rattle.exchange.specs.SendingLaws.{built-then-nops}
 use borrow.Author.Needs.{needs}
 use Rattle.exchange.proofs.talk.converse.Statement.{statement}
 use Rattle.exchange.proofs.talk.converse.Tie as tie
@@ -19,20 +20,34 @@ array-read-command-word : tie.Need-array-read-command-word
 array-read-command-word c = search needs
 
 send-requires : tie.Need-send-requires
-send-requires c κs = let pre = c .before .before .before .before .before .pre in (pre .0, rw (built-then-nops (c .before .before .build .ensures) (pre .1) 0) (sent-clear (c .before .before .before .before .before .args .request) 0 (pre .1)))
+send-requires c κs =
+    let from = c .before .before .before .before .before in
+    let words = built-then-nops (c .before .before .build .ensures) (from .pre .1) in
+    (from .pre .0, rw (words 0) (sent-clear (from .args .request) 0 (from .pre .1)))
 
 slice-aggregate-read-on : tie.Need-slice-aggregate-read-on
 slice-aggregate-read-on c = search needs
 
 read-on-requires : tie.Need-read-on-requires
-read-on-requires c κs = let at = c .before .before .before .before .before .before .before .before .before .before .before .before .args in let pre = c .before .before .before .before .before .before .before .before .before .before .before .before .pre in let words = built-then-nops (c .before .before .before .before .before .before .before .before .before .build .ensures) (pre .1) in let sent = c .before .before .before .before .before .before .send .ensures .1 ∙ ap (stepped (stateOf (at .board) (at .place) (at .memory .now))) (words 0) in (rw sent (packet-keeps-sound (pre .0) (commandWord (at .request))), pre .1, rw sent (exchange-closes (at .request) (pre .1) (pre .0) (pre .2)), words)
+read-on-requires c κs =
+    let from = c .before .before .before .before .before .before .before .before .before .before .before .before in
+    let at = from .args in
+    let words = built-then-nops (c .before .before .before .before .before .before .before .before .before .build .ensures) (from .pre .1) in
+    let sent = c .before .before .before .before .before .before .send .ensures .1 ∙ ap (stepped (stateOf (at .board) (at .place) (at .memory .now))) (words 0) in
+    let sound = packet-keeps-sound (from .pre .0) (commandWord (at .request)) in
+    (rw sent sound, from .pre .1, rw sent (exchange-closes (at .request) (from .pre .1) (from .pre .0) (from .pre .2)), words)
 
 same-length : tie.Need-same-length
 same-length c = search needs
 
 returns : tie.Need-returns
 unfolding exchanged
-returns c = let at = c .before .before .before .before .before .before .before .before .before .before .before .before .before .before .before .args in let pre = c .before .before .before .before .before .before .before .before .before .before .before .before .before .before .before .pre in let words = built-then-nops (c .before .before .before .before .before .before .before .before .before .before .before .before .build .ensures) (pre .1) in let sent = c .before .before .before .before .before .before .before .before .before .send .ensures .1 ∙ ap (stepped (stateOf (at .board) (at .place) (at .memory .now))) (words 0) in c .before .before .read-on .ensures ∙ ap (fromCommand (at .request)) sent
+returns c =
+    let from = c .before .before .before .before .before .before .before .before .before .before .before .before .before .before .before in
+    let at = from .args in
+    let words = built-then-nops (c .before .before .before .before .before .before .before .before .before .before .before .before .build .ensures) (from .pre .1) in
+    let sent = c .before .before .before .before .before .before .before .before .before .send .ensures .1 ∙ ap (stepped (stateOf (at .board) (at .place) (at .memory .now))) (words 0) in
+    c .before .before .read-on .ensures ∙ ap (fromCommand (at .request)) sent
 
 pub converse-spec : {M : Type 1} → statement M
 converse-spec =

@@ -1,12 +1,13 @@
 use Prim.Native.Nat.{_+_, _-_}
-use mathlib.Core.Path.{_≡_, refl, sym, ap, _∙_}
+use mathlib.Core.Path.{_≡_, refl, ap, _∙_}
 use native.Mathlib.Omega.{arith}
 use borrow.Author.Needs.{needs}
 use lib.ListN.{length}
-use Rattle.port.specs.Run.{stateOf, stepped}
-use Rattle.trip.specs.Exchange.{talkBudget}
-use Rattle.trip.specs.Underway.{TalkUnderway, talk-begins, talk-goes-on, talk-is-closed, sent-clear}
-use Rattle.exchange.specs.SendLaws.{not-so, so-after-all}
+use Rattle.board.specs.State.{stateOf}
+use Rattle.step.specs.Step.{stepped}
+use Rattle.round_trip.specs.TalkMirror.{talkBudget}
+use Rattle.round_trip.specs.UnderwayLaws.{TalkUnderway, talk-begins, talk-goes-on, talk-is-closed, sent-clear}
+use Rattle.exchange.specs.SendingLaws.{not-so, so-after-all}
 use Rattle.exchange.proofs.talk.read_on.Statement.{statement}
 use Rattle.exchange.proofs.talk.read_on.Tie as tie
 
@@ -26,7 +27,11 @@ word-at-requires : tie.Need-word-at-requires Inv-loop μ-loop
 word-at-requires c κs = search needs
 
 send-requires : tie.Need-send-requires Inv-loop μ-loop
-send-requires c κs = (c .before .before .before .before .loop .inv .1 .sound, rw (c .before .word-at .ensures ∙ c .before .before .before .before .before .before .before .pre .3 (c .before .before .before .before .loop .packets)) (sent-clear (c .before .before .before .before .before .before .before .args .request) (c .before .before .before .before .loop .packets) (c .before .before .before .before .before .before .before .pre .1)))
+send-requires c κs =
+    let from = c .before .before .before .before .before .before .before in
+    let at = c .before .before .before .before .loop in
+    let word = c .before .word-at .ensures ∙ from .pre .3 (at .packets) in
+    (at .inv .1 .sound, rw word (sent-clear (from .args .request) (at .packets) (from .pre .1)))
 
 kind-of-requires : tie.Need-kind-of-requires Inv-loop μ-loop
 kind-of-requires c κs = search needs
@@ -38,16 +43,26 @@ add-packets : tie.Need-add-packets Inv-loop μ-loop
 add-packets c = omega (arith, c .before .before .before .before .before .before .before .before .before .before .before .loop .inv .1 .within)
 
 loop-less : tie.Need-loop-less Inv-loop μ-loop
-loop-less c = omega (arith, talk-goes-on (c .before .before .before .before .before .before .before .before .before .before .before .loop .inv .1) (sym (c .before .before .before .before .before .before .before .before .before .before .is-done .ensures) ∙ not-so _ (c .before .before .before .before .before .before .before .before .before .if1 .taken)) .within)
+loop-less c =
+    let more = not-so (c .before .before .before .before .before .before .before .before .before .before .is-done .ensures) (c .before .before .before .before .before .before .before .before .before .if1 .taken) in
+    omega (arith, talk-goes-on (c .before .before .before .before .before .before .before .before .before .before .before .loop .inv .1) more .within)
 
 loop-again : tie.Need-loop-again Inv-loop μ-loop
-loop-again c = let at = c .before .before .before .before .before .before .before .before .before .before .before .loop in let taken-so = rw (c .before .before .before .kind-of .ensures, c .before .before .before .before .before .before .send .ensures .0) at (c .before .before .take-reply .ensures) in let stepped-so = c .before .before .before .before .before .before .send .ensures .1 ∙ ap (stepped (stateOf (at .b) (at .p) (at .memory))) (c .before .before .before .before .before .before .before .before .word-at .ensures ∙ c .before .before .before .before .before .before .before .before .before .before .before .before .before .before .pre .3 (c .before .before .before .before .before .before .before .before .before .before .before .loop .packets)) in (c .before .before .before .before .before .before .send .kept .1 .1 .0 ∙ at .inv .0, rw (taken-so, stepped-so) (talk-goes-on (at .inv .1) (sym (c .before .before .before .before .before .before .before .before .before .before .is-done .ensures) ∙ not-so _ (c .before .before .before .before .before .before .before .before .before .if1 .taken))))
+loop-again c =
+    let from = c .before .before .before .before .before .before .before .before .before .before .before .before .before .before in
+    let at = c .before .before .before .before .before .before .before .before .before .before .before .loop in
+    let sent = c .before .before .before .before .before .before .send in
+    let more = not-so (c .before .before .before .before .before .before .before .before .before .before .is-done .ensures) (c .before .before .before .before .before .before .before .before .before .if1 .taken) in
+    let word = c .before .before .before .before .before .before .before .before .word-at .ensures ∙ from .pre .3 (at .packets) in
+    let read = rw (c .before .before .before .kind-of .ensures, sent .ensures .0) at (c .before .before .take-reply .ensures) in
+    let left = sent .ensures .1 ∙ ap (stepped (stateOf (at .b) (at .p) (at .memory))) word in
+    (sent .kept .1 .1 .0 ∙ at .inv .0, rw (read, left) (talk-goes-on (at .inv .1) more))
 
 same-length : tie.Need-same-length Inv-loop μ-loop
 same-length c = c .before .before .loop .inv .0
 
 returns : tie.Need-returns Inv-loop μ-loop
-returns c = talk-is-closed (c .before .before .loop .inv .1) (sym (c .before .is-done .ensures) ∙ so-after-all _ (c .if1 .left))
+returns c = talk-is-closed (c .before .before .loop .inv .1) (so-after-all (c .before .is-done .ensures) (c .if1 .left))
 
 pub read-on-spec : {M : Type 1} → statement M
 read-on-spec =

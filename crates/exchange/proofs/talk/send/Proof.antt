@@ -1,5 +1,5 @@
 use Rattle.grounds.specs.GroundLaws.{number-is-not-zero}
-use Rattle.exchange.specs.SendLaws.{sound-is-sent}
+use Rattle.exchange.specs.SendingLaws.{sound-is-sent}
 use borrow.Author.Needs.{needs}
 use Rattle.exchange.proofs.talk.send.Statement.{statement}
 use Rattle.exchange.proofs.talk.send.Tie as tie
@@ -17,13 +17,19 @@ same-length : tie.Need-same-length
 same-length c = search needs
 
 returns : tie.Need-returns
-returns c = let sent = sound-is-sent (c .before .before .before .before .before .before .before .before .before .before .pre .0) (c .before .before .before .before .before .before .before .before .before .before .pre .1) (c .before .before .before .before .before .before .before .take-packet .ensures) in (rw (c .before .outcome .given .1) at (sent .reply), sent .state)
+returns c =
+    let from = c .before .before .before .before .before .before .before .before .before .before in
+    let sent = sound-is-sent (from .pre .0) (from .pre .1) (c .before .before .before .before .before .before .before .take-packet .ensures) in
+    (rw (c .before .outcome .given .1) at (sent .reply), sent .state)
 
 same-length-2 : tie.Need-same-length-2
 same-length-2 c = search needs
 
 returns-2 : tie.Need-returns-2
-returns-2 c = let sent = sound-is-sent (c .before .before .before .before .before .before .before .before .before .pre .0) (c .before .before .before .before .before .before .before .before .before .pre .1) (c .before .before .before .before .before .before .take-packet .ensures) in absurd (number-is-not-zero (c .enum-told .given .0 .0) (rw (c .enum-told .given .1) at (sent .unrefused)))
+returns-2 c =
+    let from = c .before .before .before .before .before .before .before .before .before in
+    let sent = sound-is-sent (from .pre .0) (from .pre .1) (c .before .before .before .before .before .before .take-packet .ensures) in
+    absurd (number-is-not-zero (c .enum-told .given .0 .0) (rw (c .enum-told .given .1) at (sent .unrefused)))
 
 pub send-spec : {M : Type 1} → statement M
 send-spec =

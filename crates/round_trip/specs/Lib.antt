@@ -1,0 +1,17 @@
+pub mod Meaning
+pub mod RoundTrip
+pub mod BroughtToRest
+pub mod TalkMirror
+pub mod PacketTakenLaws
+pub mod ClosesLaws
+pub mod MeantWorkLaws
+pub mod MeaningLaws
+pub mod RoundTripLaws
+pub mod BroughtToRestLaws
+pub mod TalkLaws
+pub mod UnderwayLaws
+pub mod WriteReadLaws
+pub mod NextRequestLaws
+pub mod WholeRunLaws
+pub mod EveryWLaws
+pub mod MeaningExamples
