@@ -20,9 +20,10 @@ use Rattle.trigger.specs.Groups.{pcGroup, addressMatches, attributeAgrees, data
 use Rattle.bus.specs.Firing.{bstatAfter, responds, firing, seen, statusAfter}
 use Rattle.bus.specs.Answers.{EventTold, eventTold}
 use Rattle.bus.specs.Events.{eventVerdict, eventOutcome}
-use Rattle.trace.specs.Cycle.{givesOwn, after as afterCycle, carriedInto, value}
-use Rattle.trace.specs.Items.{itemsAt, itemsBefore, items, words}
-use Rattle.trace.specs.Examples.{p9}
+use Rattle.cycle.specs.Cycle.{givesOwn, after as afterCycle, carriedInto, value}
+use Rattle.cycle.specs.CycleItems.{itemsAt}
+use Rattle.cycle.specs.CycleExamples.{p9}
+use Rattle.trace.specs.Items.{itemsBefore, items, words}
 use Rattle.promises.specs.Machine.{State, standIn}
 use Rattle.promises.specs.Environment.{handed}
 use Rattle.promises.specs.History.{Lent, Call, after, finds, made}
