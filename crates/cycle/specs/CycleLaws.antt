@@ -34,7 +34,10 @@ single-bit (suc (suc (suc (suc (suc (suc (suc (suc p)))))))) h = absurd (beyond 
 
 -- no marker gives an item of its own
 pub marker-not-single : (p : ℕ) → 8 ≤ p → single p ≡ false
-marker-not-single p h = rw (ne-eqb p 1 (λ e. omega (arith, e)), ne-eqb p 3 (λ e. omega (arith, e)), ne-eqb p 4 (λ e. omega (arith, e)), ne-eqb p 5 (λ e. omega (arith, e)), ne-eqb p 7 (λ e. omega (arith, e)))
+marker-not-single p h = rw (other 1 (omega arith), other 3 (omega arith), other 4 (omega arith), other 5 (omega arith), other 7 (omega arith))
+  where
+    other : (n : ℕ) → n < 8 → eqb p n ≡ false
+    other n k = ne-eqb p n (λ e. omega (arith, e))
 
 -- a marker is too soon where two nibbles or more are due, and no other PST is
 pub two-or-more : (due : ℕ) → leb 2 due ≡ cond (ltb due 2) false true

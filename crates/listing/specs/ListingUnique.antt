@@ -7,7 +7,8 @@ use Rattle.trace.specs.declared.Listing.{Listing}
 use Rattle.trace.specs.TraceReadingUnique.{toldListing-unique}
 use Rattle.listing.specs.Listing.{ListingMeets, ListingFromMeets}
 
-pub listing-unique : {trace before after after′ : List ℕ} {r r′ : Listing} → ListingMeets trace before r after → ListingMeets trace before r′ after′ → (r ≡ r′) × (after ≡ after′)
+pub listing-unique : {trace before after after′ : List ℕ} {r r′ : Listing}
+    → ListingMeets trace before r after → ListingMeets trace before r′ after′ → (r ≡ r′) × (after ≡ after′)
 listing-unique {r} {r′} m m′ = (toldListing-unique r r′ (m .answer ∙ sym (m′ .answer)), m .words ∙ sym (m′ .words))
 
 pub listing-from-unique : {trace : List ℕ} {i : ℕ} {c : Carried} {before after after′ : List ℕ} {r r′ : Listing}

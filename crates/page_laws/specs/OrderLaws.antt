@@ -11,12 +11,11 @@ use borrow.Author.Tests.{eq-eqb, eqb-true, eqb-false}
 use Rattle.cycle.specs.declared.Carried.{Carried}
 use Rattle.cycle.specs.declared.Item.{Item}
 use Rattle.cycle.specs.Cycle.{pst, givesOwn, after, carriedInto}
-use Rattle.tally.specs.Tally.{one}
 use Rattle.cycle.specs.CycleItems.{ofValue, ofCycle, valueItem, ownItem, itemsAt}
 use Rattle.trace.specs.Items.{itemsBefore, itemsFrom, items}
 use Rattle.index.specs.Entry.{entryAt}
 use Rattle.index.specs.EntryLaws.{itemsOn}
-use Rattle.tally.specs.Tally.{countOf, firstOf, lastOf}
+use Rattle.tally.specs.Tally.{one, countOf, firstOf, lastOf}
 
 -- an item is one of these
 abbrev pub Among : Item → List Item → Type 0

@@ -41,7 +41,9 @@ pub record Shown : Type 0 where
   pub reserved-first : pageVerdict (0x20 ∷ []) 0 ≡ refusal 8 0
 
 pub shown : Shown
-unfolding givesOwn after carriedInto value itemsAt itemsBefore items tooLong earliest endsInside tooShort judgedFrom countOf firstOf lastOf startsOf each firstEntries indexWords pageVerdict
+unfolding givesOwn after carriedInto value itemsAt itemsBefore items tooLong earliest endsInside tooShort judgedFrom
+
+unfolding countOf firstOf lastOf startsOf each firstEntries indexWords pageVerdict
 shown =
     record {
       p9-items = refl;

@@ -11,14 +11,13 @@ use borrow.Author.Tests.{ne-eqb, ltb-false}
 use Rattle.cycle.specs.declared.Carried.{Carried}
 use Rattle.cycle.specs.declared.Item.{Item}
 use Rattle.cycle.specs.Cycle.{pst, givesOwn, marker, after, carriedInto}
-use Rattle.tally.specs.Tally.{one}
 use Rattle.cycle.specs.CycleItems.{ofValue, ofCycle, valueItem, ownItem, itemsAt}
 use Rattle.trace.specs.Items.{itemsBefore, items}
 use Rattle.cycle.specs.CycleCountLaws.{one-le}
 use Rattle.rate.specs.declared.Rate.the-variants.{Average}
 use Rattle.rate.specs.Rate.{rateOf}
 use Rattle.rate.specs.RateLaws.{rounded-once}
-use Rattle.tally.specs.Tally.{start, startsOf}
+use Rattle.tally.specs.Tally.{one, start, startsOf}
 
 starts-append : (xs ys : List Item) → startsOf (xs ++ ys) ≡ startsOf xs + startsOf ys
 unfolding startsOf

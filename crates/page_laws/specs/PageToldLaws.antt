@@ -42,7 +42,8 @@ module _ (trace given index : List ℕ) (page : Page) (met : PageMeets trace giv
   pub page-first-and-last : (code : ℕ) → code < 16 → 0 < getD (page .counts) code 0
       → FirstAndLast (items trace) code (getD (page .firsts) code 0) (getD (page .lasts) code 0)
   page-first-and-last code h =
-      rw (page-of, of-code (countOf (items trace)) code h, of-code (firstOf (items trace)) code h, of-code (lastOf (items trace)) code h) (first-and-last trace code)
+      rw (page-of, of-code (countOf (items trace)) code h, of-code (firstOf (items trace)) code h, of-code (lastOf (items trace)) code h)
+      (first-and-last trace code)
 
   -- "one division of the two counts in double precision, rounded once": the double nearest to the fraction of the numbers handed over
   pub page-rounded-once : 0 < page .starts → page .rate ≡ Average (round binary64 false (page .cycles) (page .starts))

@@ -11,11 +11,10 @@ use borrow.Author.Tests.{ne-eqb, eqb-true, eqb-false}
 use Rattle.cycle.specs.declared.Carried.{Carried}
 use Rattle.cycle.specs.declared.Item.{Item}
 use Rattle.cycle.specs.Cycle.{pst, givesOwn, carriedInto}
-use Rattle.tally.specs.Tally.{one}
 use Rattle.cycle.specs.CycleItems.{ofValue, ofCycle, valueItem, ownItem, itemsAt}
 use Rattle.trace.specs.Items.{itemsBefore, items}
 use Rattle.index.specs.RangeLaws.{Bytes, marker-at-most}
-use Rattle.tally.specs.Tally.{countOf, each, perCode}
+use Rattle.tally.specs.Tally.{one, countOf, each, perCode}
 
 -- every item's code is one of the sixteen
 abbrev pub Coded : List Item → Type 0

@@ -42,10 +42,14 @@ stepFrom trace start (suc n) i c past =
     (cond (givesOwn (c .run) (pst trace i)) (handing (cursorAt start (i + 1) (after c (pst trace i)) false) (ofCycle i (pst trace i)))
     (stepFrom trace start n (i + 1) (after c (pst trace i)) false))
 
+-- the first item from a cursor on, where the start can be read
+abbrev pub stepRead : List ℕ → Cursor → Step
+stepRead trace cursor = stepFrom trace (cursor .start) (length trace - cursor .cycle) (cursor .cycle) (cursor .carried) (cursor .past)
+
 -- a refused start is handed out at every step, and the walk stays
 abbrev pub stepBy : List ℕ → Cursor → Listing → Step
 stepBy trace cursor (Refused ground cycle) = record { cursor = cursor; handed = asRefused ground cycle }
-stepBy trace cursor (Items n) = stepFrom trace (cursor .start) (length trace - cursor .cycle) (cursor .cycle) (cursor .carried) (cursor .past)
+stepBy trace cursor (Items n) = stepRead trace cursor
 
 -- one step of the walk
 unfoldable pub stepOf : List ℕ → Cursor → Step

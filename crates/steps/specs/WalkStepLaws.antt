@@ -14,11 +14,12 @@ use Rattle.cycle.specs.Cycle.{pst, givesOwn, after}
 use Rattle.cycle.specs.CycleItems.{ofValue, ofCycle}
 use Rattle.laws.specs.Stores.{one-left}
 use Rattle.steps.specs.declared.Handed.the-variants.{End as atEnd, Refused as asRefused}
-use Rattle.steps.specs.WalkStep.{cursorAt, valueNext, handing, stepFrom, stepBy, stepOf}
+use Rattle.steps.specs.WalkStep.{cursorAt, valueNext, handing, stepFrom, stepRead, stepBy, stepOf}
 
 module _ (trace : List ℕ) (start : Listing) (i : ℕ) (c : Carried) (past : Bool) where
   module _ (h : i < length trace) where
-    pub step-value : valueNext (c .due) past ≡ true → stepFrom trace start (length trace - i) i c past ≡ handing (cursorAt start i c true) (ofValue trace i (c .marker))
+    pub step-value : valueNext (c .due) past ≡ true
+        → stepFrom trace start (length trace - i) i c past ≡ handing (cursorAt start i c true) (ofValue trace i (c .marker))
     unfolding stepFrom
     step-value v = rw (one-left (length trace) i h, v)
 
@@ -46,6 +47,6 @@ unfolding stepOf
 step-refused trace cursor ground cycle e = ap (stepBy trace cursor) e
 
 pub step-read : (trace : List ℕ) (cursor : Cursor) (n : ℕ) → cursor .start ≡ Items n
-    → stepOf trace cursor ≡ stepFrom trace (cursor .start) (length trace - cursor .cycle) (cursor .cycle) (cursor .carried) (cursor .past)
+    → stepOf trace cursor ≡ stepRead trace cursor
 unfolding stepOf
 step-read trace cursor n e = ap (stepBy trace cursor) e

@@ -14,7 +14,10 @@ use Rattle.steps.specs.declared.Handed.the-variants.{Item as oneItem, En
 use Rattle.steps.specs.WalkStep.{cursorAt, StartMeets, toldHanded}
 
 pub start-unique : (trace : List ℕ) (p q : Cursor) → StartMeets trace p → StartMeets trace q → p ≡ q
-start-unique trace p q s t = s .first ∙ ap (λ (l : Listing). cursorAt l 0 nothing false) (toldListing-unique (p .start) (q .start) (s .judged ∙ sym (t .judged))) ∙ sym (t .first)
+start-unique trace p q s t =
+    s .first
+    ∙ ap (λ (l : Listing). cursorAt l 0 nothing false) (toldListing-unique (p .start) (q .start) (s .judged ∙ sym (t .judged)))
+    ∙ sym (t .first)
 
 -- two handings of the same number and values are one
 pub toldHanded-unique : (r s : Handed) → toldHanded r ≡ toldHanded s → r ≡ s

@@ -4,11 +4,10 @@ use cycle::Item;
 use grounds::Ground;
 use trace::Listing;
 ghost use mathlib.Core.Path.{_≡_};
-ghost use Prim.Native.Nat.{_+_, _-_, _<_};
+ghost use Prim.Native.Nat.{_+_, _<_};
 ghost use mathlib.Core.Bool.{true, false};
-ghost use lib.ListN.{length};
 ghost use Rattle.cycle.specs.CycleItems.{ofValue, ofCycle};
-ghost use Rattle.steps.specs.WalkStep.{cursorAt, valueNext, handing, stepFrom, stepOf, StartMeets};
+ghost use Rattle.steps.specs.WalkStep.{cursorAt, valueNext, handing, stepRead, stepOf, StartMeets};
 
 // Where a walk stands: how its start was judged, the next cycle and what it finds under way, and
 // whether that cycle's value is past.
@@ -100,7 +99,7 @@ fn hand_own(start: Listing, i: usize, next: Carried, pst: u8) -> Step
 
 // The next item from a cursor on, and the cursor after it.
 fn find_item(trace: &[u8], cursor: Cursor) -> Step
-    ensures { λ r. ⌜ r ≡ stepFrom (now (trace .entry)) (cursor .start) (length (now (trace .entry)) - cursor .cycle) (cursor .cycle) (cursor .carried) (cursor .past) ⌝ }
+    ensures { λ r. ⌜ r ≡ stepRead (now (trace .entry)) cursor ⌝ }
 {
     let start = cursor.start;
     let mut carried = cursor.carried;

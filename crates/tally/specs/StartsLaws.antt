@@ -1,6 +1,7 @@
 -- Laws of the instruction starts: they are four of the counts.
 use mathlib.Core.Path.{_≡_, refl}
-use Prim.Native.Nat.{ℕ, zero, suc, _+_, _≤_}
+use Prim.Native.Nat.{ℕ, zero, suc, _+_, _≤_, _<_}
+use mathlib.Core.Bool.{false}
 use mathlib.Core.List.{List, [], _∷_}
 use native.Mathlib.Omega.{arith}
 use lib.Dec.{eqb}
@@ -20,13 +21,10 @@ start-is-one (suc (suc (suc (suc (suc (suc (suc zero))))))) = refl
 start-is-one (suc (suc (suc (suc (suc (suc (suc (suc code)))))))) = beyond (suc (suc (suc (suc (suc (suc (suc (suc code)))))))) (omega arith)
   where
     beyond : (p : ℕ) → 8 ≤ p → one (start p) ≡ one (eqb p 1) + one (eqb p 4) + one (eqb p 5) + one (eqb p 7)
-    beyond p h = rw (
-      ne-eqb p 1 (λ e. omega (arith, e)),
-      ne-eqb p 4 (λ e. omega (arith, e)),
-      ne-eqb p 5 (λ e. omega (arith, e)),
-      ne-eqb p 7
-          (λ e. omega (arith, e)),
-    )
+    beyond p h = rw (other 1 (omega arith), other 4 (omega arith), other 5 (omega arith), other 7 (omega arith))
+      where
+        other : (n : ℕ) → n < 8 → eqb p n ≡ false
+        other n k = ne-eqb p n (λ e. omega (arith, e))
 
 -- "instruction starts (codes 1, 4, 5, 7)" are the items of these four codes
 pub starts-are-four : (xs : List Item) → startsOf xs ≡ countOf xs 1 + countOf xs 4 + countOf xs 5 + countOf xs 7

@@ -42,6 +42,7 @@ unfolding itemsAt
 words-at trace i c p = words-append (valueItem trace i c) (ownItem i (c .run) p)
 
 -- the items of the cycles before cycle i, and those of cycle i
-pub items-more : (trace : List ℕ) (i : ℕ) (c : Carried) → c ≡ carriedInto trace i → itemsBefore trace (i + 1) ≡ itemsBefore trace i ++ itemsAt trace i c (pst trace i)
+pub items-more : (trace : List ℕ) (i : ℕ) (c : Carried) → c ≡ carriedInto trace i
+    → itemsBefore trace (i + 1) ≡ itemsBefore trace i ++ itemsAt trace i c (pst trace i)
 unfolding itemsBefore
 items-more trace i c e = rw (add-one i, e)

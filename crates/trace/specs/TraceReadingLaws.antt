@@ -120,7 +120,8 @@ unfolding tooShort
 room-so needed room t h = rw (le-ltb room needed h)
 
 -- a trace that passes with some buffer is one that is read
-pub passed-read : (trace : List ℕ) (needed room n : ℕ) → judged trace (tooShort needed room (counted (length (items trace)))) ≡ counted n → reading trace ≡ counted n
+pub passed-read : (trace : List ℕ) (needed room n : ℕ)
+    → judged trace (tooShort needed room (counted (length (items trace)))) ≡ counted n → reading trace ≡ counted n
 unfolding reading tooShort
 passed-read trace needed room n e = let g = passed-so trace 0 nothing _ n e in g .1 _ ∙ by-room (ltb room needed) (g .0)
   where

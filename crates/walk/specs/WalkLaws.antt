@@ -36,7 +36,8 @@ ends-handed : (trace : List ℕ) (n m : ℕ) (cursor : Cursor) → cursor .start
 unfolding handings
 ends-handed trace n zero cursor e f = refl
 ends-handed trace n (suc m) cursor e f =
-    at-step (stepOf trace cursor .cursor) (stepOf trace cursor .handed) (step-unrolls trace cursor n e .0) (step-unrolls trace cursor n e .1 ∙ e) (ends-handed trace n m)
+    at-step (stepOf trace cursor .cursor) (stepOf trace cursor .handed) (step-unrolls trace cursor n e .0) (step-unrolls trace cursor n e .1 ∙ e)
+    (ends-handed trace n m)
   where
     at-step : (q : Cursor) (h : Handed) → Unrolls trace (rest trace cursor) q h → q .start ≡ Items n
         → ((q : Cursor) → q .start ≡ Items n → rest trace q ≡ [] → handings m trace q ≡ replicate m atEnd)
@@ -52,7 +53,8 @@ unfolding handings
 rest-handed trace n m [] cursor e f = rw (zero-add m) (ends-handed trace n m cursor e f)
 rest-handed trace n m (x ∷ xs) cursor e f =
     rw (suc-add (length xs) m)
-    (at-step (stepOf trace cursor .cursor) (stepOf trace cursor .handed) (step-unrolls trace cursor n e .0) (step-unrolls trace cursor n e .1 ∙ e) (rest-handed trace n m xs))
+    (at-step (stepOf trace cursor .cursor) (stepOf trace cursor .handed) (step-unrolls trace cursor n e .0) (step-unrolls trace cursor n e .1 ∙ e)
+    (rest-handed trace n m xs))
   where
     at-step : (q : Cursor) (h : Handed) → Unrolls trace (rest trace cursor) q h → q .start ≡ Items n
         → ((q : Cursor) → q .start ≡ Items n → rest trace q ≡ xs → handings (length xs + m) trace q ≡ map oneItem xs ++ replicate m atEnd)
@@ -78,7 +80,8 @@ pub walk-is-listing : (trace : List ℕ) (cursor : Cursor) (n m : ℕ) → Start
     → (n ≡ length (items trace)) × (handings (n + m) trace cursor ≡ map oneItem (items trace) ++ replicate m atEnd)
 walk-is-listing trace cursor n m s e =
     let count = read-count trace n e in
-    (count, ap (λ (k : ℕ). handings (k + m) trace cursor) count ∙ rest-handed trace n m (items trace) cursor (start-read trace cursor n s e) (start-rest trace cursor s))
+    let from-start = rest-handed trace n m (items trace) cursor (start-read trace cursor n s e) (start-rest trace cursor s) in
+    (count, ap (λ (k : ℕ). handings (k + m) trace cursor) count ∙ from-start)
 
 refused-handed : (trace : List ℕ) (cursor : Cursor) (ground : Ground) (cycle m : ℕ) → cursor .start ≡ Refused ground cycle
     → map toldHanded (handings m trace cursor) ≡ replicate m (refusal (number ground) cycle)
@@ -100,11 +103,13 @@ walk-refused trace cursor k i m s e = by-start (cursor .start) refl (s .judged �
         refused-handed trace cursor ground cycle m f ∙ cc
 
 -- the first step hands out the first item of the listing, the end where it has none, or the refusal
-pub first-handed : (trace : List ℕ) (cursor : Cursor) → StartMeets trace cursor → toldHanded (stepOf trace cursor .handed) ≡ firstHanded (reading trace) (items trace)
+pub first-handed : (trace : List ℕ) (cursor : Cursor) → StartMeets trace cursor
+    → toldHanded (stepOf trace cursor .handed) ≡ firstHanded (reading trace) (items trace)
 unfolding handings
 first-handed trace cursor s = by-reading (reading trace) refl
   where
-    by-item : (n : ℕ) (xs : List Item) → rest trace cursor ≡ xs → (q : Cursor) (h : Handed) → Unrolls trace (rest trace cursor) q h → toldHanded h ≡ firstHanded (counted n) xs
+    by-item : (n : ℕ) (xs : List Item) → rest trace cursor ≡ xs → (q : Cursor) (h : Handed) → Unrolls trace (rest trace cursor) q h
+        → toldHanded h ≡ firstHanded (counted n) xs
     by-item n [] f q (oneItem x) u = let z : _≡_ {A = ℕ} 0 1 = cc in absurd (omega arith)
     by-item n (y ∷ ys) f q (oneItem x) u = let same : x ≡ y = cc in ap (λ (x : Item). toldHanded (oneItem x)) same
     by-item n [] f q atEnd u = refl
@@ -113,7 +118,10 @@ first-handed trace cursor s = by-reading (reading trace) refl
 
     by-reading : (t : Told) → reading trace ≡ t → toldHanded (stepOf trace cursor .handed) ≡ firstHanded t (items trace)
     by-reading (asRefusal k i) e = let r = walk-refused trace cursor k i 1 s e in cc
-    by-reading (counted n) e = by-item n (items trace) (start-rest trace cursor s) (stepOf trace cursor .cursor) (stepOf trace cursor .handed) (step-unrolls trace cursor n (start-read trace cursor n s e) .0)
+    by-reading (counted n) e =
+        by-item n (items trace) (start-rest trace cursor s) (stepOf trace cursor .cursor) (stepOf trace cursor .handed)
+        (step-unrolls trace cursor n (start-read trace cursor n s e) .0)
 
-pub walk-first : (trace : RefT (List ℕ)) (w : Walk) → WalkStarts trace w → toldHanded (steppedOf w .handed) ≡ firstHanded (reading (now trace)) (items (now trace))
+pub walk-first : (trace : RefT (List ℕ)) (w : Walk) → WalkStarts trace w
+    → toldHanded (steppedOf w .handed) ≡ firstHanded (reading (now trace)) (items (now trace))
 walk-first trace w s = ap (λ (v : Walk). toldHanded (steppedOf v .handed)) (s .borrowed) ∙ first-handed (now trace) (w .cursor) (s .started)

@@ -66,16 +66,21 @@ from-unrolls trace start (suc n) i c past e =
     Good : List Item → Step → Type 0
     Good xs s = Unrolls trace xs (s .cursor) (s .handed) × (s .cursor .start ≡ start)
 
-    by-own : Good more on → (b : Bool) → Good ((cond b (ofCycle i p ∷ []) []) ++ more) (cond b (handing (cursorAt start (i + 1) (after c p) false) (ofCycle i p)) on)
+    own : Step
+    own = handing (cursorAt start (i + 1) (after c p) false) (ofCycle i p)
+
+    by-own : Good more on → (b : Bool) → Good ((cond b (ofCycle i p ∷ []) []) ++ more) (cond b own on)
     by-own ih true = (rw fewer, refl)
     by-own ih false = ih
 
     by-value : Good more on → (b : Bool) → Good ((cond b (ofValue trace i (c .marker) ∷ []) [] ++ ownItem i (c .run) p) ++ more)
-        (cond b (handing (cursorAt start i c true) (ofValue trace i (c .marker))) (cond (givesOwn (c .run) p) (handing (cursorAt start (i + 1) (after c p) false) (ofCycle i p)) on))
+        (cond b (handing (cursorAt start i c true) (ofValue trace i (c .marker))) (cond (givesOwn (c .run) p) own on))
     by-value ih true = (rw (e, none-past trace n (i + 1) (after c p)), refl)
     by-value ih false = by-own ih (givesOwn (c .run) p)
 
 -- THE LAW: the items from a cursor on are the one its step hands out, and those from the step's cursor on
 pub step-unrolls : (trace : List ℕ) (cursor : Cursor) (n : ℕ) → cursor .start ≡ Items n
     → Unrolls trace (rest trace cursor) (stepOf trace cursor .cursor) (stepOf trace cursor .handed) × (stepOf trace cursor .cursor .start ≡ cursor .start)
-step-unrolls trace cursor n e = rw (step-read trace cursor n e) (from-unrolls trace (cursor .start) (length trace - cursor .cycle) (cursor .cycle) (cursor .carried) (cursor .past) refl)
+step-unrolls trace cursor n e =
+    rw (step-read trace cursor n e)
+    (from-unrolls trace (cursor .start) (length trace - cursor .cycle) (cursor .cycle) (cursor .carried) (cursor .past) refl)
