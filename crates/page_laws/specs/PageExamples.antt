@@ -42,8 +42,7 @@ pub record Shown : Type 0 where
 
 pub shown : Shown
 unfolding givesOwn after carriedInto value itemsAt itemsBefore items tooLong earliest endsInside tooShort judgedFrom
-
-unfolding countOf firstOf lastOf startsOf each firstEntries indexWords pageVerdict
+    countOf firstOf lastOf startsOf each firstEntries indexWords pageVerdict
 shown =
     record {
       p9-items = refl;
