@@ -2,11 +2,10 @@
 use Prim.Native.Nat.{ℕ, _+_, _*_, _/_, _%_}
 use mathlib.Core.List.{List}
 use lib.ListN.{length}
-use Rattle.trace.specs.declared.cycle.Item.{Item}
-use Rattle.trace.specs.declared.listing.Listing.{Listing}
-use Rattle.trace.specs.Cycle.{carriedInto}
-use Rattle.trace.specs.Items.{itemsBefore, itemsToEnd}
-use Rattle.trace.specs.ListingFrom.{ListingFromMeets}
+use Rattle.trace.specs.declared.Listing.{Listing}
+use Rattle.cycle.specs.Cycle.{carriedInto}
+use Rattle.trace.specs.Items.{itemsBefore}
+use Rattle.listing.specs.Listing.{ListingFromMeets}
 use Rattle.index.specs.declared.Entry.{Entry}
 
 -- "the number of items before it, any transfer under way and any run of C to F it stands in"
@@ -21,14 +20,6 @@ entryWord e = e .items * 4096 + e .carried .marker * 256 + e .carried .due * 16 
 abbrev pub ofWord : ℕ → ℕ → Entry
 ofWord cycle word = record { cycle = cycle; items = word / 4096; carried = record { marker = word / 256 % 16; due = word / 16 % 16; run = word % 16 } }
 
--- "a listing may start there": the items from an entry on, whatever trace it is of. How many it says are before it is not read.
-abbrev pub itemsOn : List ℕ → Entry → List Item
-itemsOn trace e = itemsToEnd trace (e .cycle) (e .carried)
-
--- those from the trace's own entry of a cycle on
-abbrev pub restAt : List ℕ → ℕ → List Item
-restAt trace i = itemsOn trace (entryAt trace i)
-
--- what a listing from an entry promises, for every entry: the answer, and every word of the buffer
+-- "a listing may start there": what one from an entry promises, for every entry, of whatever trace: the answer, and every word of the buffer
 abbrev pub EntryMeets : List ℕ → Entry → List ℕ → Listing → List ℕ → Type 0
 EntryMeets trace e before r after = ListingFromMeets trace (e .cycle) (e .carried) before r after

@@ -7,23 +7,27 @@ use lib.ListN.{length, drop, getD, List·getD-append}
 use lib.Seq.{getD-append-add}
 use Rattle.grounds.specs.declared.Ground.the-variants.{BufferTooShort}
 use Rattle.grounds.specs.Grounds.{number}
-use Rattle.trace.specs.declared.listing.Listing.{Listing}
-use Rattle.trace.specs.Cycle.{carriedInto}
-use Rattle.trace.specs.Items.{itemsBefore, items, words}
+use Rattle.trace.specs.declared.Listing.{Listing}
+use Rattle.cycle.specs.Cycle.{carriedInto}
+use Rattle.cycle.specs.declared.Item.{Item}
+use Rattle.trace.specs.Items.{itemsBefore, items, itemsToEnd, words}
 use Rattle.trace.specs.ItemLaws.{length-words}
-use Rattle.trace.specs.FromLaws.{items-split, words-split}
-use Rattle.trace.specs.Listing.{refusal, counted, told, tooShort, reading, wordsOver, wordsAfter, ListingMeets}
-use Rattle.trace.specs.ListingFrom.{listingFrom}
-use Rattle.trace.specs.JudgeLaws.{read-from, read-so, listed-read}
-use Rattle.trace.specs.ListingLaws.{short-so, room-so, from-one}
-use Rattle.trace.specs.StartLaws.{count-split, read-on}
+use Rattle.trace.specs.ItemsFromLaws.{items-split, words-split}
+use Rattle.trace.specs.TraceReading.{refusal, counted, toldListing, tooShort, reading}
+use Rattle.listing.specs.Listing.{listingFrom, wordsOver, wordsAfter, ListingMeets}
+use Rattle.trace.specs.TraceReadingLaws.{read-count, short-so, room-so}
+use Rattle.listing.specs.ListingLaws.{read-from, listed-read}
+use Rattle.trace.specs.TraceStartLaws.{count-split, read-on}
 use Rattle.index.specs.declared.Entry.{Entry}
-use Rattle.index.specs.Entry.{entryAt, restAt, EntryMeets}
+use Rattle.index.specs.Entry.{entryAt, EntryMeets}
 
--- no second answer fits, and no second buffer, whatever the entry
-pub entry-one : {trace : List ℕ} (e : Entry) {before after after′ : List ℕ} {r r′ : Listing}
-    → EntryMeets trace e before r after → EntryMeets trace e before r′ after′ → (r ≡ r′) × (after ≡ after′)
-entry-one e m m′ = from-one m m′
+-- the items from an entry on, whatever trace it is of. How many it says are before it is not read.
+abbrev pub itemsOn : List ℕ → Entry → List Item
+itemsOn trace e = itemsToEnd trace (e .cycle) (e .carried)
+
+-- those from the trace's own entry of a cycle on
+abbrev pub restAt : List ℕ → ℕ → List Item
+restAt trace i = itemsOn trace (entryAt trace i)
 
 -- the trace's own entry of cycle i
 module _ (trace : List ℕ) (i : ℕ) (within : i ≤ length trace) where
@@ -48,18 +52,18 @@ module _ (trace : List ℕ) (i : ℕ) (within : i ≤ length trace) where
   -- of a trace that can be read
   module _ (n : ℕ) (reads : reading trace ≡ counted n) where
     rest-count : length (restAt trace i) ≡ n - entryAt trace i .items
-    rest-count = omega (arith, entry-count, read-so trace 0 n reads .0)
+    rest-count = omega (arith, entry-count, read-count trace n reads)
 
     rest-words : length (words (restAt trace i)) ≡ 2 * (n - entryAt trace i .items)
     rest-words = omega (arith, rest-count, length-words (restAt trace i))
 
     -- only the buffer is left to judge
-    only-room : (room : ℕ) → listingFrom trace i (carriedInto trace i) room ≡ tooShort (restAt trace i) room (counted (length (restAt trace i)))
+    only-room : (room : ℕ) → listingFrom trace i (carriedInto trace i) room ≡ tooShort (2 * length (restAt trace i)) room (counted (length (restAt trace i)))
     only-room room = read-from trace i (carriedInto trace i) room (n - entryAt trace i .items) (read-on trace i n within reads) .1
 
     module _ (before : List ℕ) (r : Listing) (after : List ℕ) (met : EntryMeets trace (entryAt trace i) before r after) where
       -- without room it is refused with 11, and the buffer stays
-      pub entry-refused : length before < 2 * (n - entryAt trace i .items) → (told r ≡ refusal (number BufferTooShort) 0) × (after ≡ before)
+      pub entry-refused : length before < 2 * (n - entryAt trace i .items) → (toldListing r ≡ refusal (number BufferTooShort) 0) × (after ≡ before)
       entry-refused h = (met .answer ∙ short, met .words ∙ ap (wordsOver (restAt trace i) before) short)
         where
           short : listingFrom trace i (carriedInto trace i) (length before) ≡ refusal (number BufferTooShort) 0
@@ -70,7 +74,7 @@ module _ (trace : List ℕ) (i : ℕ) (within : i ≤ length trace) where
         lists = only-room (length before) ∙ room-so _ _ _ (omega (arith, rest-count)) ∙ ap counted rest-count
 
         -- with room it is not refused, and answers as many items as the trace has beyond those before it
-        pub entry-answers : told r ≡ counted (n - entryAt trace i .items)
+        pub entry-answers : toldListing r ≡ counted (n - entryAt trace i .items)
         entry-answers = met .answer ∙ lists
 
         -- the buffer holds their words, and beyond them what it held
@@ -85,20 +89,20 @@ module _ (trace : List ℕ) (i : ℕ) (within : i ≤ length trace) where
             ∙ entry-word k
 
 -- a full listing that counts n items holds their words
-full-holds : (trace before full : List ℕ) (s : Listing) (n : ℕ) → ListingMeets trace before s full → told s ≡ counted n
+full-holds : (trace before full : List ℕ) (s : Listing) (n : ℕ) → ListingMeets trace before s full → toldListing s ≡ counted n
     → (k : ℕ) → k < 2 * n → getD full k 0 ≡ getD (words (items trace)) k 0
 full-holds trace before full s n whole listed k h =
     ap (λ (w : List ℕ). getD w k 0) (whole .words ∙ ap (wordsAfter trace before) (sym (whole .answer) ∙ listed))
     ∙ List·getD-append (words (items trace)) (drop (length (words (items trace))) before) 0 k (omega (arith, length-words (items trace), counts))
   where
     counts : n ≡ length (items trace)
-    counts = read-so trace 0 n (listed-read trace (length before) n (sym (whole .answer) ∙ listed)) .0
+    counts = read-count trace n (listed-read trace (length before) n (sym (whole .answer) ∙ listed))
 
 -- THE LAW: where the full listing counts n items, the one from the trace's own entry of a cycle counts the rest, and each word is the full one's
 pub entry-is-the-rest : (trace : List ℕ) (i : ℕ) → i ≤ length trace
-    → (n : ℕ) (given full : List ℕ) (s : Listing) → ListingMeets trace given s full → told s ≡ counted n
+    → (n : ℕ) (given full : List ℕ) (s : Listing) → ListingMeets trace given s full → toldListing s ≡ counted n
     → (before after : List ℕ) (r : Listing) → EntryMeets trace (entryAt trace i) before r after → 2 * (n - entryAt trace i .items) ≤ length before
-    → (told r ≡ counted (n - entryAt trace i .items))
+    → (toldListing r ≡ counted (n - entryAt trace i .items))
     × ((k : ℕ) → k < 2 * (n - entryAt trace i .items) → getD after k 0 ≡ getD full (2 * entryAt trace i .items + k) 0)
 entry-is-the-rest trace i within n given full s whole listed before after r met room =
     let reads = listed-read trace (length given) n (sym (whole .answer) ∙ listed) in

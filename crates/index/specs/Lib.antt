@@ -1,5 +1,8 @@
 pub mod Entry
-pub mod EntryLaws
+pub mod Index
 pub mod RangeLaws
-pub mod WordLaws
-pub mod Examples
+pub mod EntryWordLaws
+pub mod EntryLaws
+pub mod EntryUnique
+pub mod IndexLaws
+pub mod EntryExamples

@@ -1,41 +1,34 @@
--- Laws of the ranges of what a cycle finds under way, and of how many items stand before it.
+-- Laws of the ranges of what a cycle finds under way.
 use Prim.Native.Nat.{ℕ, zero, suc, _-_, _≤_, _<_}
-use mathlib.Core.Path.{_≡_, refl}
+use mathlib.Core.Path.{_≡_}
 use mathlib.Core.Bool.{Bool, true, false, cond}
 use mathlib.Core.List.{List}
 use native.Mathlib.Omega.{arith}
 use lib.Dec.{ltb}
 use lib.ListN.{getD}
 use borrow.Author.Tests.{ltb-true}
-use Rattle.trace.specs.Cycle.{pst, marker, nibbles, after, carriedInto}
+use Rattle.laws.specs.Tests.{either}
+use Rattle.cycle.specs.Cycle.{pst, marker, nibbles, after, carriedInto}
 
 -- a marker is 11 at most
 marker-le : (p : ℕ) → marker p ≡ true → p ≤ 11
-marker-le p = by-test (ltb p 8) (ltb p 12) refl
-  where
-    by-test : (a b : Bool) → ltb p 12 ≡ b → cond a false b ≡ true → p ≤ 11
-    by-test true b t e = let z : _≡_ {A = ℕ} 0 1 = cc in absurd (omega arith)
-    by-test false true t e = omega (arith, ltb-true p 12 t)
-    by-test false false t e = let z : _≡_ {A = ℕ} 0 1 = cc in absurd (omega arith)
+marker-le p =
+    either (λ (b : Bool). b ≡ true → p ≤ 11) (ltb p 8) false (ltb p 12) (λ t e. let z : _≡_ {A = ℕ} 0 1 = cc in absurd (omega arith))
+    (λ t e. omega (arith, ltb-true p 12 e))
 
 pub marker-at-most : (trace : List ℕ) (i : ℕ) → carriedInto trace i .marker ≤ 11
 unfolding carriedInto after
 marker-at-most trace zero = omega arith
-marker-at-most trace (suc i) = by-test (marker-at-most trace i) (marker (pst trace i)) refl
-  where
-    by-test : carriedInto trace i .marker ≤ 11 → (b : Bool) → marker (pst trace i) ≡ b → cond b (pst trace i) (carriedInto trace i .marker) ≤ 11
-    by-test before true e = marker-le (pst trace i) e
-    by-test before false e = before
+marker-at-most trace (suc i) =
+    either (λ (m : ℕ). m ≤ 11) (marker (pst trace i)) (pst trace i) (carriedInto trace i .marker) (λ t. marker-le (pst trace i) t) (λ t. marker-at-most trace i)
 
 -- a transfer has 8 nibbles at most
 pub due-at-most : (trace : List ℕ) (i : ℕ) → carriedInto trace i .due ≤ 8
 unfolding carriedInto after
 due-at-most trace zero = omega arith
-due-at-most trace (suc i) = by-test (due-at-most trace i) (marker (pst trace i))
-  where
-    by-test : carriedInto trace i .due ≤ 8 → (b : Bool) → cond b (nibbles (pst trace i)) (carriedInto trace i .due - 1) ≤ 8
-    by-test before true = omega arith
-    by-test before false = omega arith
+due-at-most trace (suc i) =
+    either (λ (d : ℕ). d ≤ 8) (marker (pst trace i)) (nibbles (pst trace i)) (carriedInto trace i .due - 1) (λ t. omega arith)
+    (λ t. omega (arith, due-at-most trace i))
 
 -- a trace of bytes, as a `&[u8]` always is
 abbrev pub Bytes : List ℕ → Type 0
@@ -45,9 +38,12 @@ Bytes trace = (k : ℕ) → getD trace k 0 < 256
 pub run-below : (trace : List ℕ) → Bytes trace → (i : ℕ) → carriedInto trace i .run < 16
 unfolding carriedInto after
 run-below trace bytes zero = omega arith
-run-below trace bytes (suc i) = by-test (run-below trace bytes i) (marker (pst trace i)) (ltb (pst trace i) 12)
+run-below trace bytes (suc i) =
+    either Small (marker p) (carriedInto trace i .run) (cond (ltb p 12) 0 p) (λ t. run-below trace bytes i)
+    (λ t. either Small (ltb p 12) 0 p (λ u. omega arith) (λ u. omega (arith, bytes i)))
   where
-    by-test : carriedInto trace i .run < 16 → (a b : Bool) → cond a (carriedInto trace i .run) (cond b 0 (pst trace i)) < 16
-    by-test before true b = before
-    by-test before false true = omega arith
-    by-test before false false = omega (arith, bytes i)
+    p : ℕ
+    p = pst trace i
+
+    Small : ℕ → Type 0
+    Small run = run < 16

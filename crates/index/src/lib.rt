@@ -1,7 +1,6 @@
 // The index of a trace: what stands before a cycle, as an entry and as one word.
-use trace::cycle::Carried;
-use trace::listing;
-use trace::listing::Listing;
+use cycle::Carried;
+use trace::Listing;
 ghost use mathlib.Core.Path.{_≡_};
 ghost use Rattle.index.specs.Entry.{ofWord, EntryMeets};
 

@@ -3,8 +3,7 @@ use crate::script;
 use text::listing::put_head;
 use text::listing::put_item;
 use text::request::put_refusal_at;
-use trace::listing;
-use trace::listing::Listing;
+use trace::Listing;
 
 fn put_items(words: &[u32], text: &mut [u8], from: usize) -> usize {
     let mut at = from;

@@ -1,13 +1,13 @@
 // The text of a page, a line at a time, each with its line end.
 ghost use Prim.Native.Nat.{_≤_};
 ghost use lib.ListN.{length};
+use cycle::Carried;
 use rate::Rate;
 use summary::page::Page;
 use text::put_byte;
 use text::put_decimal;
 use text::put_hex;
 use text::put_text;
-use trace::cycle::Carried;
 
 fn end_line(text: &mut [u8], at: usize) -> usize {
     put_byte(text, at, b'\n')

@@ -5,7 +5,7 @@ use libc::STDIN_FILENO;
 use summary::page;
 use summary::page::Page;
 use text::request::put_refusal_at;
-use trace::listing::Listing;
+use trace::Listing;
 
 // The lines of a page whose trace was read; of the index those that its cycles have.
 fn put_lines(text: &mut [u8], page: Page, items: usize, index: &[u32]) -> usize {

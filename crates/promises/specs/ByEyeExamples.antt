@@ -26,9 +26,10 @@ use Rattle.bus.specs.Events.{eventVerdict, eventOutcome}
 use Rattle.bus.specs.EventExamples.{Setting, fired, p4Settings, p4Outside, p4Inside, p4Csr, p5Settings, p5Event}
 use Rattle.run.specs.PacketExamples.{sixteen, p1Words, p1Replies, p2Words, p2Replies, p3Words, p3Replies, p6Words, p6Replies, p7Words, p7Replies, p8Words}
 use Rattle.run.specs.PacketExamples.{p8Replies}
-use Rattle.trace.specs.Cycle.{givesOwn, after as afterCycle, carriedInto, value}
-use Rattle.trace.specs.Items.{itemsAt, itemsBefore, items, words}
-use Rattle.trace.specs.Examples.{p9, p9Words}
+use Rattle.cycle.specs.Cycle.{givesOwn, after as afterCycle, carriedInto, value}
+use Rattle.cycle.specs.CycleItems.{itemsAt}
+use Rattle.cycle.specs.CycleExamples.{p9, p9Words}
+use Rattle.trace.specs.Items.{itemsBefore, items, words}
 use Rattle.promises.specs.Machine.{standIn}
 use Rattle.promises.specs.Environment.{handed}
 use Rattle.promises.specs.History.{Lent, Call, after, finds, made}

@@ -125,8 +125,3 @@ half-up cycles starts p = rw (ne-eqb starts 0 (λ e. omega (arith, e)))
 
     d : ℕ
     d = starts * 2
-
--- P9's nine cycles and three starts: "rate 3.00 bits 4008000000000000"
-pub p9-bits : toBits binary64 (quotient 9 3) ≡ 0x4008000000000000
-unfolding toBits div ofInt round
-p9-bits = refl

@@ -1,22 +1,18 @@
 -- The page (02, [2]): what it says of a trace, the refusals, and what the index buffer holds.
 use mathlib.Core.Path.{_≡_}
 use Prim.Native.Nat.{ℕ}
-use mathlib.Core.Bool.{cond}
 use mathlib.Core.List.{List, _++_}
-use lib.Dec.{ltb}
 use lib.ListN.{length, drop, replicate}
 use Rattle.grounds.specs.declared.Ground.{Ground}
-use Rattle.grounds.specs.declared.Ground.the-variants.{BufferTooShort}
-use Rattle.grounds.specs.Grounds.{number}
-use Rattle.trace.specs.declared.listing.Listing.{Listing}
-use Rattle.trace.specs.declared.listing.Listing.the-variants.{Items, Refused}
+use Rattle.trace.specs.declared.Listing.{Listing}
+use Rattle.trace.specs.declared.Listing.the-variants.{Items, Refused}
 use Rattle.trace.specs.Items.{items}
-use Rattle.trace.specs.Listing.{Told, refusal, counted, told, judged}
+use Rattle.trace.specs.TraceReading.{Told, refusal, counted, toldListing, tooShort, judged}
 use Rattle.rate.specs.declared.Rate.the-variants.{NothingStarted}
 use Rattle.rate.specs.Rate.{rateOf}
 use Rattle.summary.specs.declared.page.Page.{Page}
-use Rattle.summary.specs.Tally.{countOf, firstOf, lastOf, startsOf, perCode}
-use Rattle.summary.specs.Index.{entryCount, indexWords}
+use Rattle.tally.specs.Tally.{countOf, firstOf, lastOf, startsOf, perCode}
+use Rattle.index.specs.Index.{entryCount, indexWords}
 
 -- "the number of cycles, of instruction starts .., of items of each code, the first and last cycle of each that occurs, and the average"
 abbrev pub pageOf : List ℕ → ℕ → Page
@@ -49,13 +45,9 @@ abbrev pub pageBy : List ℕ → Listing → Page
 pageBy trace (Items n) = pageOf trace n
 pageBy trace (Refused ground cycle) = blank ground cycle
 
--- 11, in entries
-unfoldable pub indexShort : List ℕ → ℕ → Told → Told
-indexShort trace room otherwise = cond (ltb room (entryCount (length trace))) (refusal (number BufferTooShort) 0) otherwise
-
--- "Refusals: the reader's own, then 11 for the index buffer."; else the items are counted
+-- "Refusals: the reader's own, then 11 for the index buffer.", a word an entry; else the items are counted
 unfoldable pub pageVerdict : List ℕ → ℕ → Told
-pageVerdict trace room = judged trace (indexShort trace room (counted (length (items trace))))
+pageVerdict trace room = judged trace (tooShort (entryCount (length trace)) room (counted (length (items trace))))
 
 -- a refusal leaves the buffer as given; else the index stands at its front, and what is beyond it stays
 abbrev pub indexAfter : List ℕ → List ℕ → Told → List ℕ
@@ -65,7 +57,7 @@ indexAfter trace before (counted n) = indexWords trace ++ drop (length (indexWor
 -- what a page promises, for every trace and every buffer
 pub record PageMeets (trace before : List ℕ) (r : Page) (after : List ℕ) : Type 0 where
   -- the judgement's number and values are the paper's
-  pub answer : told (r .judged) ≡ pageVerdict trace (length before)
+  pub answer : toldListing (r .judged) ≡ pageVerdict trace (length before)
   -- all else that is answered
   pub page : r ≡ pageBy trace (r .judged)
   -- every word of the buffer

@@ -1,8 +1,8 @@
 // The page of a trace and its index, or a refusal.
-use crate::tally;
+use crate::noting;
 use grounds::Ground;
 use rate::Rate;
-use trace::listing::Listing;
+use trace::Listing;
 ghost use mathlib.Core.Path.{_≡_};
 ghost use Prim.Native.Nat.{_≤_};
 ghost use lib.ListN.{length};
@@ -56,7 +56,7 @@ pub fn make_page(trace: &[u8], index: &mut [u32]) -> Page
     let mut firsts = [0u32; 16];
     let mut lasts = [0u32; 16];
     let mut entries = [0u32; 256];
-    let judged = tally::tally_trace(trace, &mut counts, &mut firsts, &mut lasts, &mut entries);
+    let judged = noting::tally_trace(trace, &mut counts, &mut firsts, &mut lasts, &mut entries);
     match judged {
         Listing::Refused { ground, cycle } => refuse(ground, cycle),
         Listing::Items(items) => {

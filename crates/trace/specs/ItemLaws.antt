@@ -1,49 +1,31 @@
--- Laws of the items: how many there are, and how their words follow each other.
-use mathlib.Core.Path.{_≡_, refl, ap, sym, _∙_}
-use Prim.Native.Nat.{ℕ, zero, suc, _+_, _-_, _*_, _≤_}
-use mathlib.Core.Bool.{Bool, true, false, cond}
+-- Laws of the items before a cycle: how many there are, and how their words follow each other.
+use mathlib.Core.Path.{_≡_, refl, sym}
+use Prim.Native.Nat.{ℕ, zero, suc, _+_, _*_, _≤_}
 use mathlib.Core.List.{List, [], _∷_, _++_}
 use native.Mathlib.Numerals.{add-one}
 use native.Mathlib.Omega.{arith}
-use lib.Dec.{eqb}
 use lib.ListN.{length, length-append}
-use Rattle.trace.specs.declared.cycle.Carried.{Carried}
-use Rattle.trace.specs.declared.cycle.Item.{Item}
-use Rattle.trace.specs.Cycle.{pst, givesOwn, carriedInto}
-use Rattle.trace.specs.Items.{one, countAt, valueItem, ownItem, itemsAt, itemsBefore, items, words}
-
-one-length : (b : Bool) (x : Item) → length (cond b (x ∷ []) []) ≡ one b
-one-length true x = refl
-one-length false x = refl
-
-pub items-counted : (trace : List ℕ) (i : ℕ) (c : Carried) (p : ℕ) → length (itemsAt trace i c p) ≡ countAt c p
-unfolding itemsAt countAt
-items-counted trace i c p = simp (length-append, one-length) (omega arith)
-
-pub one-le : (b : Bool) → one b ≤ 1
-one-le true = omega arith
-one-le false = omega arith
-
--- a cycle gives two items at most
-pub count-le : (c : Carried) (p : ℕ) → countAt c p ≤ 2
-unfolding countAt
-count-le c p = omega (arith, one-le (eqb (c .due) 1), one-le (givesOwn (c .run) p))
+use Rattle.cycle.specs.declared.Carried.{Carried}
+use Rattle.cycle.specs.declared.Item.{Item}
+use Rattle.cycle.specs.Cycle.{pst, carriedInto}
+use Rattle.cycle.specs.CycleItems.{valueItem, ownItem, itemsAt}
+use Rattle.cycle.specs.CycleCountLaws.{count-le}
+use Rattle.trace.specs.Items.{itemsBefore, words}
 
 -- one cycle more
-pub items-next : (trace : List ℕ) (i : ℕ) → length (itemsBefore trace (suc i)) ≡ length (itemsBefore trace i) + countAt (carriedInto trace i) (pst trace i)
+items-next : (trace : List ℕ) (i : ℕ)
+    → length (itemsBefore trace (suc i)) ≡ length (itemsBefore trace i) + length (itemsAt trace i (carriedInto trace i) (pst trace i))
 unfolding itemsBefore
-items-next trace i =
-    length-append (itemsBefore trace i) (itemsAt trace i (carriedInto trace i) (pst trace i))
-    ∙ ap (λ (n : ℕ). length (itemsBefore trace i) + n) (items-counted trace i (carriedInto trace i) (pst trace i))
+items-next trace i = length-append (itemsBefore trace i) (itemsAt trace i (carriedInto trace i) (pst trace i))
 
 pub count-next : (trace : List ℕ) (i n : ℕ) (c : Carried) → n ≡ length (itemsBefore trace i) → c ≡ carriedInto trace i
-    → n + countAt c (pst trace i) ≡ length (itemsBefore trace (i + 1))
+    → n + length (itemsAt trace i c (pst trace i)) ≡ length (itemsBefore trace (i + 1))
 count-next trace i n c e f = rw (add-one i) (rw (e, f) (sym (items-next trace i)))
 
 pub items-before-le : (trace : List ℕ) (i : ℕ) → length (itemsBefore trace i) ≤ 2 * i
 unfolding itemsBefore
 items-before-le trace zero = omega arith
-items-before-le trace (suc i) = omega (arith, items-next trace i, items-before-le trace i, count-le (carriedInto trace i) (pst trace i))
+items-before-le trace (suc i) = omega (arith, items-next trace i, items-before-le trace i, count-le trace i (carriedInto trace i) (pst trace i))
 
 pub words-append : (xs ys : List Item) → words (xs ++ ys) ≡ words xs ++ words ys
 words-append [] ys = refl
@@ -60,6 +42,7 @@ unfolding itemsAt
 words-at trace i c p = words-append (valueItem trace i c) (ownItem i (c .run) p)
 
 -- the items of the cycles before cycle i, and those of cycle i
-pub items-more : (trace : List ℕ) (i : ℕ) (c : Carried) → c ≡ carriedInto trace i → itemsBefore trace (i + 1) ≡ itemsBefore trace i ++ itemsAt trace i c (pst trace i)
+pub items-more : (trace : List ℕ) (i : ℕ) (c : Carried) → c ≡ carriedInto trace i
+    → itemsBefore trace (i + 1) ≡ itemsBefore trace i ++ itemsAt trace i c (pst trace i)
 unfolding itemsBefore
 items-more trace i c e = rw (add-one i, e)

@@ -1,3 +1,3 @@
 pub mod Asked
 pub mod AskedLaws
-pub mod Examples
+pub mod AskedExamples

@@ -9,8 +9,7 @@ use text::listing::put_head;
 use text::listing::put_item;
 use text::request::put_refusal_at;
 use text::request::put_unclear;
-use trace::listing;
-use trace::listing::Listing;
+use trace::Listing;
 
 // Writes the text out where half of it is used; the place where the next line goes.
 fn make_room(text: &[u8], at: usize) -> usize {

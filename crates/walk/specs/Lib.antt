@@ -1,4 +1,4 @@
 pub mod Walk
-pub mod StepLaws
-pub mod RestLaws
+pub mod WalkRestLaws
 pub mod WalkLaws
+pub mod WalkUnique

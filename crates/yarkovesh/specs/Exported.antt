@@ -9,8 +9,8 @@ use Rattle.grounds.specs.Grounds.{told}
 use Rattle.board.specs.Board.{freshBoard, freshPlace, makingVerdict, settingMade}
 use Rattle.port.specs.Packets.{unless}
 use Rattle.port.specs.Run.{State, stateOf, ran, replies, runVerdict}
-use Rattle.trace.specs.Listing.{Told, listing, wordsAfter}
-use Rattle.trace.specs.Listing.Told.{refusal, counted}
+use Rattle.trace.specs.TraceReading.{Told, refusal, counted}
+use Rattle.listing.specs.Listing.{listing, wordsAfter}
 
 -- 0 where it is accepted, else the ground's number
 abbrev pub verdictNumber : Verdict → ℕ

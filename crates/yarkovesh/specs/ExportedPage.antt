@@ -5,8 +5,8 @@ use mathlib.Core.List.{List}
 use lib.ListN.{length}
 use Rattle.rate.specs.Rate.{rateOf, rateBits}
 use Rattle.trace.specs.Items.{items}
-use Rattle.trace.specs.Listing.{Told, refusal, counted}
-use Rattle.summary.specs.Tally.{countOf, firstOf, lastOf, startsOf, perCode}
+use Rattle.trace.specs.TraceReading.{Told, refusal, counted}
+use Rattle.tally.specs.Tally.{countOf, firstOf, lastOf, startsOf, perCode}
 use Rattle.summary.specs.Page.{pageVerdict, indexAfter}
 use Rattle.yarkovesh.specs.Exported.{listingNumber}
 

@@ -3,8 +3,8 @@ use mathlib.Core.Path.{_≡_, ap, sym, _∙_}
 use Prim.Native.Nat.{ℕ}
 use mathlib.Core.List.{List}
 use Rattle.grounds.specs.declared.Ground.{Ground}
-use Rattle.trace.specs.declared.listing.Listing.the-variants.{Items, Refused}
-use Rattle.trace.specs.Listing.{told}
+use Rattle.trace.specs.declared.Listing.the-variants.{Items, Refused}
+use Rattle.trace.specs.TraceReading.{toldListing as told}
 use Rattle.rate.specs.Rate.{rateBits}
 use Rattle.summary.specs.declared.page.Page.{Page}
 use Rattle.summary.specs.Page.{pageBy, PageMeets}

@@ -2,11 +2,10 @@
 ghost use mathlib.Core.Path.{_≡_};
 ghost use Rattle.yarkovesh.specs.Exported.{verdictNumber, listingNumber, FreshRunMeets, ListMeets};
 ghost use Rattle.yarkovesh.specs.ExportedPage.{rows, PageNumbersMeet};
-ghost use Rattle.trace.specs.Listing.{told};
+ghost use Rattle.trace.specs.TraceReading.{toldListing as told};
 use grounds::Verdict;
 use summary::page;
-use trace::listing;
-use trace::listing::Listing;
+use trace::Listing;
 
 fn number_of(verdict: Verdict) -> u32
     ensures { λ r. ⌜ r ≡ verdictNumber verdict ⌝ }

@@ -40,19 +40,19 @@ use denote.Triple.Walked.{says, Stays, stay-none-slice, walkOf, goes-none-slice,
 use denote.Exit.{yes}
 use denote.Triple.Clauses.{ensured, lasts}
 use Rattle.trace.specs.Items.{items}
-use Rattle.trace.specs.Listing.{reading}
-use Rattle.walk.specs.Walk.{toldStep, firstOf}
-use Rattle.walk.specs.Walk.{WalkStarts, steppedOf}
+use Rattle.trace.specs.TraceReading.{reading}
+use Rattle.steps.specs.WalkStep.{toldHanded}
+use Rattle.walk.specs.Walk.{firstHanded, WalkStarts, steppedOf}
 use Rattle.walk.specs.WalkLaws.{walk-first}
 use Rattle.walk.specs.declared.Walk.{Walk}
 use Rattle.walk.specs.declared.Stepped.{Stepped}
-use Rattle.walk.specs.declared.Handed.{Handed}
+use Rattle.steps.specs.declared.Handed.{Handed}
 use Rattle.walk.proofs.Walk as T
 use Rattle.walk.proofs.Walk.Laws as T′
 use Rattle.walk.proofs.Stepped as R
 use Rattle.walk.proofs.Stepped.Laws as R′
-use Rattle.walk.proofs.Handed as S
-use Rattle.walk.proofs.Handed.Laws as S′
+use Rattle.steps.proofs.Handed as S
+use Rattle.steps.proofs.Handed.Laws as S′
 use Rattle.walk.proofs.start_walk as new
 use Rattle.walk.proofs.start_walk.Symbol as new-def
 use Rattle.walk.proofs.start_walk.Symbol.{name as #walk·start-walk}
@@ -88,7 +88,7 @@ module _ {M : Type 1} (𝓤 : URA M) (H : Heap 𝓤) (A : Atoms 𝓤) (W : Given
 
   -- what is known of the result
   abbrev First : Handed → Type 0
-  First h = toldStep h ≡ firstOf (reading (now s)) (items (now s))
+  First h = toldHanded h ≡ firstHanded (reading (now s)) (items (now s))
 
   -- the struct's type as a local of a body has it
   abbrev αᵉ : NamedLft
@@ -158,7 +158,7 @@ module _ {M : Type 1} (𝓤 : URA M) (H : Heap 𝓤) (A : Atoms 𝓤) (W : Given
         assigns ! (of-opd ! (load ! (from ! (fld ! refl (stop !))) (look-in ! 4 (sub ! 1 refl (whole !))))) (from ! (stop !)) (init ! 10 refl (EL.lawful S.the-type S′.the-laws 𝓤 H A W tt .typed (t .handed) _ (item-is t u′ is′) .0)) $
         returns ! (look ! 10 refl) $ forget ! 2 refl $ forget ! 4 refl $ forget ! 6 refl $ forget ! 8 refl $ forget ! 10 refl $
         move ! (10 ∷ 11 ∷ []) $ free1 ! $ move ! (8 ∷ 9 ∷ []) $ free1 ! $ move ! (6 ∷ 7 ∷ []) $ free1 ! $ move ! (4 ∷ 5 ∷ []) $ free1 ! $ move ! (2 ∷ 3 ∷ []) $ free1 ! $ free0 ! $
-        by ! (exits t u′ is′ (ap (λ (y : Stepped). toldStep (y .handed)) e′ ∙ walk-first s r e)))))))))))))))
+        by ! (exits t u′ is′ (ap (λ (y : Stepped). toldHanded (y .handed)) e′ ∙ walk-first s r e)))))))))))))))
 
 module _ {M : Type 1} (𝓤 : URA M) (H : Heap 𝓤) (A : Atoms 𝓤) (W : Given 𝓤 H A) (mem : Memory → SProp 𝓤) (run : Routine → Fun 𝓤) where
   first-walks : (C : Calls 𝓤 H) (Λ : Loops 𝓤 H) → FmC 𝓤 H (W .laws) C → Triple 𝓤 (C #walk·start-walk) (New 𝓤 H A mem run) → Triple 𝓤 (C #walk·step-walk) (Next 𝓤 H A mem run)

@@ -1,4 +1,4 @@
--- `walk::step_walk` meets its contract: a walk of its MIR, by hand. The struct is taken apart, `step_at` is called on the slice and the place, and the walk is made anew of the slice and the step's place, and held beside what the step hands out.
+-- `walk::step_walk` meets its contract: a walk of its MIR, by hand. The struct is taken apart, `step_at` is called on the slice and the cursor, and the walk is made anew of the slice and the step's cursor, and held beside what the step hands out.
 -- The struct is Copy: what it owns is had three times, for the callee, for the exit and for the result. Assumes nothing.
 use mathlib.Core.Path.{_≡_, refl, ap}
 use mathlib.Core.List.{List, [], _∷_}
@@ -40,23 +40,23 @@ use denote.Triple.Table.{entered, cited}
 use denote.Triple.Walked.{says, Stays, stay-none, walkOf, goes-none, Walks, ends-at, walked, walk-meets}
 use denote.Exit.{yes}
 use denote.Triple.Clauses.{ensured, lasts}
-use Rattle.walk.specs.Walk.{stepOf}
+use Rattle.steps.specs.WalkStep.{stepOf}
 use Rattle.walk.specs.Walk.{walkAt}
 use Rattle.walk.specs.declared.Walk.{Walk}
-use Rattle.walk.specs.declared.Step.{Step}
+use Rattle.steps.specs.declared.Step.{Step}
 use Rattle.walk.specs.declared.Stepped.{Stepped}
 use Rattle.walk.proofs.Walk as T
 use Rattle.walk.proofs.Walk.Laws as T′
-use Rattle.walk.proofs.Place as P
-use Rattle.walk.proofs.Place.Laws as P′
-use Rattle.walk.proofs.Step as S
-use Rattle.walk.proofs.Step.Laws as S′
+use Rattle.steps.proofs.Cursor as P
+use Rattle.steps.proofs.Cursor.Laws as P′
+use Rattle.steps.proofs.Step as S
+use Rattle.steps.proofs.Step.Laws as S′
 use Rattle.walk.proofs.Stepped as R
 use Rattle.walk.proofs.Stepped.Laws as R′
-use Rattle.walk.proofs.step_at as step
-use Rattle.walk.proofs.step_at.Symbol as step-def
-use Rattle.walk.proofs.step_at.Symbol.{name as #walk·step-at}
-use Rattle.walk.proofs.step_at.Met as step-thm
+use Rattle.steps.proofs.step_at as step
+use Rattle.steps.proofs.step_at.Symbol as step-def
+use Rattle.steps.proofs.step_at.Symbol.{name as #steps·step-at}
+use Rattle.steps.proofs.step_at.Met as step-thm
 use Rattle.walk.proofs.step_walk.Key.{name as #walk·step-walk}
 use Rattle.walk.proofs.step_walk as next
 use Rattle.walk.proofs.step_walk.Statement as stated
@@ -82,23 +82,23 @@ module _ {M : Type 1} (𝓤 : URA M) (H : Heap 𝓤) (A : Atoms 𝓤) (W : Given
   abbrev αᵉ : NamedLft
   αᵉ = record { mir = erased; lft = κ }
 
-  -- the machine values of the walk and of its place. An enum stands in each, so they are said by the laws, and not by `lowered`
+  -- the machine values of the walk and of its cursor. An enum stands in each, so they are said by the laws, and not by `lowered`
   abbrev mach : Val
   mach = LL.val (T.the-type α) (T′.the-laws α) d
 
-  abbrev place-val : Val
-  place-val = LL.val P.the-type P′.the-laws (d .place)
+  abbrev cursor-val : Val
+  cursor-val = LL.val P.the-type P′.the-laws (d .cursor)
 
   -- the machine value of the trace
   abbrev v : Val
   v = sliceVal (d .trace .ptr) (length (d .trace .now))
 
   abbrev found : Step
-  found = stepOf (now (d .trace)) (d .place)
+  found = stepOf (now (d .trace)) (d .cursor)
 
   -- the walk after the step r, and the result
   abbrev after : Step → Walk
-  after r = walkAt (d .trace) (r .place)
+  after r = walkAt (d .trace) (r .cursor)
 
   abbrev made : Step → Stepped
   made r = record { walk = after r; handed = r .handed }
@@ -125,17 +125,17 @@ module _ {M : Type 1} (𝓤 : URA M) (H : Heap 𝓤) (A : Atoms 𝓤) (W : Given
   L = T′.the-laws α
 
   abbrev vd : Values (D .parts)
-  vd = (d .trace, (d .place, tt))
+  vd = (d .trace, (d .cursor, tt))
 
   -- what the callee is passed
   abbrev passed : Vals step.signature (κ, tt)
-  passed = (v ∷ [], (place-val ∷ [], tt))
+  passed = (v ∷ [], (cursor-val ∷ [], tt))
 
   abbrev to : StepAt 𝓤 H A mem run .Ghost
-  to = (((κ, tt), (q, tt), tt, (d .trace, (d .place, tt)), passed), tt)
+  to = (((κ, tt), (q, tt), tt, (d .trace, (d .cursor, tt)), passed), tt)
 
-  asked : ent 𝓤 (onEntry 𝓤 H A step.signature (κ, tt) (q, tt) (d .trace, (d .place, tt)) passed) (StepAt 𝓤 H A mem run .pre to)
-  asked = qed W ((‵ (flft κ q) ⊛ ‵ ftrue) ∷ ‵ (owns (ShrSlice (named 0) κ u8 ∷ P.the-row ∷ []) (d .trace, (d .place, tt)) passed) ∷ []) ∵ join ! $ frame ! $ done !
+  asked : ent 𝓤 (onEntry 𝓤 H A step.signature (κ, tt) (q, tt) (d .trace, (d .cursor, tt)) passed) (StepAt 𝓤 H A mem run .pre to)
+  asked = qed W ((‵ (flft κ q) ⊛ ‵ ftrue) ∷ ‵ (owns (ShrSlice (named 0) κ u8 ∷ P.the-row ∷ []) (d .trace, (d .cursor, tt)) passed) ∷ []) ∵ join ! $ frame ! $ done !
 
   -- what the struct owns gives what the callee asks, field by field, and is kept
   apart : ent 𝓤 (onEntry 𝓤 H A next.signature (κ, tt) (q, tt) (d, tt) (mach ∷ [], tt)) (sep 𝓤 (StepAt 𝓤 H A mem run .pre to) (sem 𝓤 H A Own))
@@ -145,8 +145,8 @@ module _ {M : Type 1} (𝓤 : URA M) (H : Heap 𝓤) (A : Atoms 𝓤) (W : Given
       use1 W (given (mach ∷ [] ≡ mach ∷ []) (‵ (all-own (D .parts) L vd))) (own-open 𝓤 H A W D L vd mach) $ learn ! (λ _.
       move ! (2 ∷ 0 ∷ []) $ use2 W (raw (StepAt 𝓤 H A mem run .pre to)) asked $ frame ! $ done !)
 
-  said : (r : Step) → ent 𝓤 (ensured 𝓤 H A step.ended (step.clauses 𝓤 H A mem run) (κ, tt) (d .trace, (d .place, tt)) tt r) (fact 𝓤 (r ≡ found))
-  said r = exE 𝓤 _ (λ ws. snd∗ 𝓤 (sem 𝓤 H A (lasts step.ended (κ, tt) (d .trace, (d .place, tt)) ws)) (fact 𝓤 (r ≡ found)))
+  said : (r : Step) → ent 𝓤 (ensured 𝓤 H A step.ended (step.clauses 𝓤 H A mem run) (κ, tt) (d .trace, (d .cursor, tt)) tt r) (fact 𝓤 (r ≡ found))
+  said r = exE 𝓤 _ (λ ws. snd∗ 𝓤 (sem 𝓤 H A (lasts step.ended (κ, tt) (d .trace, (d .cursor, tt)) ws)) (fact 𝓤 (r ≡ found)))
 
   exits : (r : Step) → r ≡ found → ent 𝓤 (⋆ 𝓤 H A (‵ (S.the-row .own r (step-val r ∷ [])) ∷ (‵ (flft κ q) ⊛ ‵ ftrue) ∷ ‵ Own ∷ [])) (Post (made-val r))
   exits r e =
@@ -156,10 +156,10 @@ module _ {M : Type 1} (𝓤 : URA M) (H : Heap 𝓤) (A : Atoms 𝓤) (W : Given
       -- [what the struct owns; what the step owns]: the slice's part of the one, and both parts of the other
       use1 W (given (mach ∷ [] ≡ mach ∷ []) (‵ (all-own (D .parts) L vd))) (own-open 𝓤 H A W D L vd mach) $ learn ! (λ _.
       use1 W (‵ (ownAt (D .parts) L 0 (d .trace)) ⊛ ‵ (rest (D .parts) L 0 vd)) (own-out 𝓤 H A W (D .parts) L 0 vd) $ split ! $ move ! (1 ∷ []) $ drop ! $ move ! (1 ∷ []) $
-      use1 W (given (step-val r ∷ [] ≡ step-val r ∷ []) (‵ (all-own (S.the-type .parts) S′.the-laws (r .place, (r .handed, tt))))) (own-open 𝓤 H A W S.the-type S′.the-laws (r .place, (r .handed, tt)) (step-val r)) $ learn ! (λ _. fsplit ! $
-      -- [what the place owns; what the item owns, and nothing more; what the slice owns]
+      use1 W (given (step-val r ∷ [] ≡ step-val r ∷ []) (‵ (all-own (S.the-type .parts) S′.the-laws (r .cursor, (r .handed, tt))))) (own-open 𝓤 H A W S.the-type S′.the-laws (r .cursor, (r .handed, tt)) (step-val r)) $ learn ! (λ _. fsplit ! $
+      -- [what the cursor owns; what the item owns, and nothing more; what the slice owns]
       nothing ! $ move ! (1 ∷ 0 ∷ []) $ fjoin ! $ move ! (2 ∷ 0 ∷ []) $ fjoin ! $
-      use1 W (‵ (T.the-row α .own (after r) (after-val r ∷ []))) (own-shut 𝓤 H A W D L (d .trace, (r .place, tt))) $ fjoin ! $
+      use1 W (‵ (T.the-row α .own (after r) (after-val r ∷ []))) (own-shut 𝓤 H A W D L (d .trace, (r .cursor, tt))) $ fjoin ! $
       by ! (own-shut 𝓤 H A W (R.the-type α) (R′.the-laws α) (after r, (r .handed, tt)))))
 
   -- the machine values of the walk and of the result have their types
@@ -170,16 +170,16 @@ module _ {M : Type 1} (𝓤 : URA M) (H : Heap 𝓤) (A : Atoms 𝓤) (W : Given
     typed-made : Holds (hasTy (R′.mir (named 0)) (made-val r)) × WT (made-val r)
     typed-made = LL.lawful (R.the-type α) (R′.the-laws α) 𝓤 H A W .typed (made r) _ (LL.owes (R.the-type α) (R′.the-laws α) (made r) (LL.owes D L (after r) (LL.owed D L d _ are .0, (LL.owed S.the-type S′.the-laws r _ is .0, tt)), (LL.owed S.the-type S′.the-laws r _ is .1 .0, tt))) .0
 
-  module _ (C : Calls 𝓤 H) (Λ : Loops 𝓤 H) (fm : FmC 𝓤 H (W .laws) C) (known : Triple 𝓤 (C #walk·step-at) (StepAt 𝓤 H A mem run)) where
+  module _ (C : Calls 𝓤 H) (Λ : Loops 𝓤 H) (fm : FmC 𝓤 H (W .laws) C) (known : Triple 𝓤 (C #steps·step-at) (StepAt 𝓤 H A mem run)) where
     walk : Is (T.the-row α) d (mach ∷ []) → Holds (hasTy (T′.mir (named 0)) mach) × WT mach → ent 𝓤 (onEntry 𝓤 H A next.signature (κ, tt) (q, tt) (d, tt) (mach ∷ [], tt)) (WpFn 𝓤 H C Λ code.function (mach ∷ []) Post)
     walk are wt =
         qed W (raw (onEntry 𝓤 H A next.signature (κ, tt) (q, tt) (d, tt) (mach ∷ [], tt)) ∷ []) ∵ enter ! C Λ code.function (mach ∷ []) _ $
         alloc1 ! (λ l₀. alloc1 ! (λ l₁. alloc1 ! (λ l₂. alloc1 ! (λ l₃. alloc1 ! (λ l₄. alloc1 ! (λ l₅. alloc1 ! (λ l₆. alloc0 ! $ params1 ! $ pass1 ! (init ! 10 refl wt) $ pass0 ! $
         assigns ! (of-opd ! (load ! (from ! (fld ! refl (stop !))) (look-in ! 10 (sub ! 0 refl (whole !))))) (from ! (stop !)) (init ! 6 refl (tt, wt .1 .0)) $
-        assigns ! (of-opd ! (load ! (from ! (fld ! refl (stop !))) (look-in ! 10 (sub ! 1 refl (whole !))))) (from ! (stop !)) (init ! 4 refl (LL.lawful P.the-type P′.the-laws 𝓤 H A W .typed (d .place) _ (LL.owed D L d _ are .1 .0) .0)) $
+        assigns ! (of-opd ! (load ! (from ! (fld ! refl (stop !))) (look-in ! 10 (sub ! 1 refl (whole !))))) (from ! (stop !)) (init ! 4 refl (LL.lawful P.the-type P′.the-laws 𝓤 H A W .typed (d .cursor) _ (LL.owed D L d _ are .1 .0) .0)) $
         move ! (14 ∷ []) $ use1 W (raw (StepAt 𝓤 H A mem run .pre to) ⊛ ‵ Own) apart $ split ! $
         calls-at ! fm (StepAt 𝓤 H A mem run) known to (and-then ! (load ! (from ! (stop !)) (look ! 8 refl)) (and-then ! (load ! (from ! (stop !)) (look ! 6 refl)) (no-more !))) (λ u.
-        use1 W (later (some (λ (r : Step). ((‵ (flft κ q) ⊛ ‵ ftrue) ⊛ ‵ (S.the-row .own r (u ∷ []))) ⊛ raw (ensured 𝓤 H A step.ended (step.clauses 𝓤 H A mem run) (κ, tt) (d .trace, (d .place, tt)) tt r)))) (id⊢ 𝓤 _) $ await ! tt $ pick ! (λ r.
+        use1 W (later (some (λ (r : Step). ((‵ (flft κ q) ⊛ ‵ ftrue) ⊛ ‵ (S.the-row .own r (u ∷ []))) ⊛ raw (ensured 𝓤 H A step.ended (step.clauses 𝓤 H A mem run) (κ, tt) (d .trace, (d .cursor, tt)) tt r)))) (id⊢ 𝓤 _) $ await ! tt $ pick ! (λ r.
         split ! $ move ! (1 ∷ []) $ use1 W (raw (fact 𝓤 (r ≡ found))) (said r) $ heard ! (r ≡ found) (λ e. split ! $ move ! (1 ∷ []) $
         -- [what the step owns; the token; what the struct owns; _6; …; _5; …; _4; …; _3; …; room for _2; …; _1; …; room for _0; …]
         peeks ! S.the-row (Is S.the-row) (shows 𝓤 H A S.the-row) r (u ∷ []) (λ is.
@@ -193,13 +193,13 @@ module _ {M : Type 1} (𝓤 : URA M) (H : Heap 𝓤) (A : Atoms 𝓤) (W : Given
         move ! (15 ∷ 16 ∷ []) $ free1 ! $ move ! (13 ∷ 14 ∷ []) $ free1 ! $ move ! (11 ∷ 12 ∷ []) $ free1 ! $ move ! (9 ∷ 10 ∷ []) $ free1 ! $ move ! (7 ∷ 8 ∷ []) $ free1 ! $ move ! (5 ∷ 6 ∷ []) $ free1 ! $ move ! (3 ∷ 4 ∷ []) $ free1 ! $ free0 ! $ by ! (exits r e))))))))))))
 
 module _ {M : Type 1} (𝓤 : URA M) (H : Heap 𝓤) (A : Atoms 𝓤) (W : Given 𝓤 H A) (mem : Memory → SProp 𝓤) (run : Routine → Fun 𝓤) where
-  next-walks : (C : Calls 𝓤 H) (Λ : Loops 𝓤 H) → FmC 𝓤 H (W .laws) C → Triple 𝓤 (C #walk·step-at) (StepAt 𝓤 H A mem run)
+  next-walks : (C : Calls 𝓤 H) (Λ : Loops 𝓤 H) → FmC 𝓤 H (W .laws) C → Triple 𝓤 (C #steps·step-at) (StepAt 𝓤 H A mem run)
       → Walks 𝓤 H A next.ended stayed (WpFn 𝓤 H C Λ code.function) (next.clauses 𝓤 H A mem run)
   next-walks C Λ fm known = walked 𝓤 H A next.ended stayed (next.clauses 𝓤 H A mem run) (WpFn 𝓤 H C Λ code.function) (λ κs. (LL.vals (T.the-type (namedLft 1 0 tt κs)) (T′.the-laws (namedLft 1 0 tt κs)), tt)) (λ κs. (LL.tells (T.the-type (namedLft 1 0 tt κs)) (T′.the-laws (namedLft 1 0 tt κs)), tt))
       (λ κs qs bounds a g are. via 𝓤 _ (fst∗ 𝓤 _ (emp 𝓤)) (walk 𝓤 H A W mem run (κs .0) (qs .0) (a .0) C Λ fm known (are .0) (LL.lawful (T.the-type (namedLft 1 0 tt κs)) (T′.the-laws (namedLft 1 0 tt κs)) 𝓤 H A W .typed (a .0) _ (are .0) .0)))
 
 next-meets : {M : Type 1} (𝓤 : URA M) (H : Heap 𝓤) (A : Atoms 𝓤) (W : Given 𝓤 H A) (mem : Memory → SProp 𝓤) (run : Routine → Fun 𝓤) (𝓣 : Tables 𝓤 H)
-    → Triple 𝓤 (𝓣 .C #walk·step-at) (StepAt 𝓤 H A mem run)
+    → Triple 𝓤 (𝓣 .C #steps·step-at) (StepAt 𝓤 H A mem run)
     → Meets 𝓤 H A next.signature (WpFn 𝓤 H (𝓣 .C) (𝓣 .Λ) code.function) (next.spec 𝓤 H A mem run)
 next-meets 𝓤 H A W mem run 𝓣 known = walk-meets 𝓤 H A next.ended stayed W (goes-none 𝓤 H A W 1 B yes (λ κs x f. refl), tt) (next.clauses 𝓤 H A mem run) (WpFn 𝓤 H (𝓣 .C) (𝓣 .Λ) code.function) (WpFn-mono 𝓤 H (W .laws) 𝓣 code.function)
     (next-walks 𝓤 H A W mem run (𝓣 .C) (𝓣 .Λ) (fmOf 𝓤 H (W .laws) 𝓣) known)
@@ -210,4 +210,4 @@ step-walk-spec 𝓤 H 𝓜 𝓖 𝓡 =
     entered 𝓤 H (tripleOf 𝓤 H (𝓖 .A) next.signature (next.spec 𝓤 H (𝓖 .A) (𝓜 .mem) (𝓡 .run)))
     (tables 𝓤 H 𝓜 𝓡 code.env .C) (tables 𝓤 H 𝓜 𝓡 code.env .Λ) #walk·step-walk code.function (code.unfolded 𝓤 H 𝓜 𝓡)
     (next-meets 𝓤 H (𝓖 .A) (givenOf 𝓤 H 𝓜 𝓖) (𝓜 .mem) (𝓡 .run) (tablesOf 𝓤 H 𝓜 (tables 𝓤 H 𝓜 𝓡 code.env))
-    (cited 𝓤 H (StepAt 𝓤 H (𝓖 .A) (𝓜 .mem) (𝓡 .run)) 𝓜 𝓡 code.env #walk·step-at step-def.routine code.calls-walk·step-at (step-thm.met 𝓤 H 𝓜 𝓖 𝓡)))
+    (cited 𝓤 H (StepAt 𝓤 H (𝓖 .A) (𝓜 .mem) (𝓡 .run)) 𝓜 𝓡 code.env #steps·step-at step-def.routine code.calls-steps·step-at (step-thm.met 𝓤 H 𝓜 𝓖 𝓡)))

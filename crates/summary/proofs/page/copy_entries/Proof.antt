@@ -3,7 +3,7 @@ use Prim.Native.Nat.{_-_, _≤_}
 use native.Mathlib.Omega.{arith}
 use lib.ListN.{length}
 use lib.Seq.{paste, paste-zero}
-use Rattle.summary.specs.ReadLaws.{copied-next}
+use Rattle.summary.specs.PassLaws.{copied-next}
 use borrow.Author.Needs.{needs}
 use Rattle.summary.proofs.page.copy_entries.Statement.{statement}
 use Rattle.summary.proofs.page.copy_entries.Tie as tie

@@ -5,13 +5,10 @@ use mathlib.Core.List.{List}
 use native.Mathlib.Omega.{arith}
 use lib.ListN.{length, replicate, length-replicate}
 use lib.Seq.{paste}
-use Rattle.trace.specs.Cycle.{nothing}
-use Rattle.trace.specs.Listing.{told}
-use Rattle.trace.specs.JudgeLaws.{read-short, reading-whole}
-use Rattle.trace.specs.StoreLaws.{length-stored}
-use Rattle.summary.specs.TallyLaws.{nothing-noted}
-use Rattle.summary.specs.StartLaws.{starts-tallied, four-small}
-use Rattle.summary.specs.Index.{entryCount, indexWords}
+use Rattle.trace.specs.TraceReading.{toldListing}
+use Rattle.summary.specs.NotingLaws.{nothing-noted, starts-tallied}
+use Rattle.summary.specs.PassLaws.{pass-read}
+use Rattle.index.specs.Index.{entryCount}
 use Rattle.summary.specs.PageLaws.{page-refused, page-short, page-read}
 use borrow.Author.Needs.{needs}
 use Rattle.summary.proofs.page.make_page.Statement.{statement}
@@ -36,36 +33,17 @@ refuse-requires-2 : tie.Need-refuse-requires-2
 refuse-requires-2 c κs = search needs
 
 returns : tie.Need-returns
-returns c = page-short _ _ _ _ (sym (c .before .before .before .before .before .tally-trace .ensures .0)
-    ∙ ap told (c .before .before .before .judged2 .given .1)) (omega arith) (c .refuse2 .ensures)
+returns c = page-short _ _ _ _ (pass-read (c .before .before .before .before .before .tally-trace .ensures) (c .before .before .before .judged2 .given .1) .reads) (omega arith) (c .refuse2 .ensures)
 
 slice-aggregate-copy-entries : tie.Need-slice-aggregate-copy-entries
-slice-aggregate-copy-entries c = let t = rw (c .before .before .before .before .judged2 .given .1) at
-    (c .before .before .before .before .before .before .tally-trace .ensures .1) in
-    sym (length-stored (replicate 256 0) (indexWords
-    (c .before .before .before .before .before .before .before .before .before .before .before .before .before .args .trace .now)) 0 (t .1)
-    ∙ length-replicate {A = ℕ} 256 0)
+slice-aggregate-copy-entries c = sym (pass-read (c .before .before .before .before .before .before .tally-trace .ensures) (c .before .before .before .before .judged2 .given .1) .room ∙ length-replicate {A = ℕ} 256 0)
 
 copy-entries-requires : tie.Need-copy-entries-requires
-copy-entries-requires c κs = let e = sym (c .before .before .before .before .before .before .tally-trace .ensures .0)
-    ∙ ap told (c .before .before .before .before .judged2 .given .1) in
-    let t = rw (c .before .before .before .before .judged2 .given .1) at (c .before .before .before .before .before .before .tally-trace .ensures .1) in
-    let k = read-short _ 0 nothing _ (reading-whole _ ∙ e) in (
-      search needs,
-      omega (
-        arith,
-        k,
-        length-stored (replicate 256 0)
-            (indexWords (c .before .before .before .before .before .before .before .before .before .before .before .before .before .args .trace .now)) 0
-            (t .1),
-        length-replicate {A = ℕ} 256 0,
-      ),
-    )
+copy-entries-requires c κs = let p = pass-read (c .before .before .before .before .before .before .tally-trace .ensures) (c .before .before .before .before .judged2 .given .1) in
+    (search needs, omega (arith, p .short, p .room, length-replicate {A = ℕ} 256 0))
 
 cast-cycles : tie.Need-cast-cycles
-cast-cycles c = let e = sym (c .before .before .before .before .before .before .before .before .before .tally-trace .ensures .0)
-    ∙ ap told (c .before .before .before .before .before .before .before .judged2 .given .1) in
-    omega (arith, read-short _ 0 nothing _ (reading-whole _ ∙ e))
+cast-cycles c = omega (arith, pass-read (c .before .before .before .before .before .before .before .before .before .tally-trace .ensures) (c .before .before .before .before .before .before .before .judged2 .given .1) .short)
 
 array-read-starts : tie.Need-array-read-starts
 array-read-starts c = search needs
@@ -74,58 +52,35 @@ array-read-starts-2 : tie.Need-array-read-starts-2
 array-read-starts-2 c = search needs
 
 add-starts : tie.Need-add-starts
-add-starts c = let e = sym (c .before .before .before .before .before .before .before .before .before .tally-trace .ensures .0)
-    ∙ ap told (c .before .before .before .before .before .before .before .judged2 .given .1) in
-    let t = (rw (c .before .before .before .before .before .before .before .judged2 .given .1) at
-    (c .before .before .before .before .before .before .before .before .before .tally-trace .ensures .1)) .0 in
-    let trace = c .before .before .before .before .before .before .before .before .before .before .before .before .before .before .before .before .args .trace .now in
-    let k = read-short trace 0 nothing _ (reading-whole trace ∙ e) in
-    omega (arith, four-small trace k t)
+add-starts c = omega (arith, pass-read (c .before .before .before .before .before .before .before .before .before .tally-trace .ensures) (c .before .before .before .before .before .before .before .judged2 .given .1) .small)
 
 array-read-starts-3 : tie.Need-array-read-starts-3
 array-read-starts-3 c = search needs
 
 add-starts-2 : tie.Need-add-starts-2
-add-starts-2 c = let e = sym (c .before .before .before .before .before .before .before .before .before .tally-trace .ensures .0)
-    ∙ ap told (c .before .before .before .before .before .before .before .judged2 .given .1) in
-    let t = (rw (c .before .before .before .before .before .before .before .judged2 .given .1) at
-    (c .before .before .before .before .before .before .before .before .before .tally-trace .ensures .1)) .0 in
-    let trace = c .before .before .before .before .before .before .before .before .before .before .before .before .before .before .before .before .args .trace .now in
-    let k = read-short trace 0 nothing _ (reading-whole trace ∙ e) in
-    omega (arith, four-small trace k t)
+add-starts-2 c = omega (arith, pass-read (c .before .before .before .before .before .before .before .before .before .tally-trace .ensures) (c .before .before .before .before .before .before .before .judged2 .given .1) .small)
 
 array-read-starts-4 : tie.Need-array-read-starts-4
 array-read-starts-4 c = search needs
 
 add-starts-3 : tie.Need-add-starts-3
-add-starts-3 c = let e = sym (c .before .before .before .before .before .before .before .before .before .tally-trace .ensures .0)
-    ∙ ap told (c .before .before .before .before .before .before .before .judged2 .given .1) in
-    let t = (rw (c .before .before .before .before .before .before .before .judged2 .given .1) at
-    (c .before .before .before .before .before .before .before .before .before .tally-trace .ensures .1)) .0 in
-    let trace = c .before .before .before .before .before .before .before .before .before .before .before .before .before .before .before .before .args .trace .now in
-    let k = read-short trace 0 nothing _ (reading-whole trace ∙ e) in
-    omega (arith, four-small trace k t)
+add-starts-3 c = omega (arith, pass-read (c .before .before .before .before .before .before .before .before .before .tally-trace .ensures) (c .before .before .before .before .before .before .before .judged2 .given .1) .small)
 
 rate-of-requires : tie.Need-rate-of-requires
 rate-of-requires c κs = search needs
 
 returns-2 : tie.Need-returns-2
-returns-2 c = page-refused _ _ _ _ _ (sym (c .before .before .before .before .tally-trace .ensures .0) ∙ ap told (c .before .before .judged .given .1))
-    (c .refuse .ensures)
+returns-2 c = page-refused _ _ _ _ _ (sym (c .before .before .before .before .tally-trace .ensures .0) ∙ ap toldListing (c .before .before .judged .given .1)) (c .refuse .ensures)
 
 same-length : tie.Need-same-length
 same-length c = search needs
 
 returns-3 : tie.Need-returns-3
-returns-3 c = let e = sym (c .before .before .before .before .before .before .before .before .before .before .tally-trace .ensures .0)
-    ∙ ap told (c .before .before .before .before .before .before .before .before .judged2 .given .1) in
-    let t = rw (c .before .before .before .before .before .before .before .before .judged2 .given .1) at
-    (c .before .before .before .before .before .before .before .before .before .before .tally-trace .ensures .1) in
+returns-3 c = let p = pass-read (c .before .before .before .before .before .before .before .before .before .before .tally-trace .ensures) (c .before .before .before .before .before .before .before .before .judged2 .given .1) in
     let a = c .before .before .before .before .before .before .before .before .before .before .before .before .before .before .before .before .before .args in
-    let k = read-short (a .trace .now) 0 nothing _ (reading-whole (a .trace .now) ∙ e) in
-    page-read _ _ _ _ e (replicate 256 0) (omega arith) (omega (arith, length-replicate {A = ℕ} 256 0))
-    (rw (c .rate-of .ensures, starts-tallied (t .0), ← t .0 .count, ← t .0 .first, ← t .0 .last))
-    (c .before .before .before .copy-entries .ensures ∙ ap (λ (l : List ℕ). paste (a .index .now) 0 l (entryCount (length (a .trace .now)))) (t .1))
+    page-read _ _ _ _ (p .reads) (replicate 256 0) (omega arith) (omega (arith, p .short, length-replicate {A = ℕ} 256 0))
+    (rw (c .rate-of .ensures, starts-tallied (p .tally), ← p .tally .count, ← p .tally .first, ← p .tally .last))
+    (c .before .before .before .copy-entries .ensures ∙ ap (λ (l : List ℕ). paste (a .index .now) 0 l (entryCount (length (a .trace .now)))) (p .index))
 
 pub make-page-spec : {M : Type 1} → statement M
 make-page-spec =

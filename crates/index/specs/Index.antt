@@ -1,0 +1,17 @@
+-- The index of a trace (02, [2]): which cycles have an entry, and the words of all.
+use Prim.Native.Nat.{ℕ, zero, suc, _+_, _*_, _/_}
+use mathlib.Core.List.{List, [], _∷_, _++_}
+use lib.ListN.{length}
+use Rattle.index.specs.Entry.{entryAt, entryWord}
+
+-- "an index of cycles 0, 256, 512 and so on": so many of them are below a number of cycles
+abbrev pub entryCount : ℕ → ℕ
+entryCount cycles = (cycles + 255) / 256
+
+-- the words of the first n entries
+unfoldable pub firstEntries : List ℕ → ℕ → List ℕ
+firstEntries trace zero = []
+firstEntries trace (suc n) = firstEntries trace n ++ (entryWord (entryAt trace (256 * n)) ∷ [])
+
+unfoldable pub indexWords : List ℕ → List ℕ
+indexWords trace = firstEntries trace (entryCount (length trace))

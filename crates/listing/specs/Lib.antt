@@ -1,0 +1,5 @@
+pub mod Listing
+pub mod ListingMirror
+pub mod ListingLaws
+pub mod ListingUnique
+pub mod ListingExamples

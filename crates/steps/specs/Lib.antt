@@ -1,0 +1,3 @@
+pub mod WalkStep
+pub mod WalkStepLaws
+pub mod WalkStepUnique
