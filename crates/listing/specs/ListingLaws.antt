@@ -8,7 +8,7 @@ use Rattle.cycle.specs.Cycle.{nothing}
 use Rattle.trace.specs.declared.Listing.{Listing}
 use Rattle.trace.specs.Items.{items, itemsToEnd}
 use Rattle.trace.specs.ItemsFromLaws.{items-whole}
-use Rattle.trace.specs.TraceReading.{Told, refusal, counted, toldListing, tooShort, reading, readingFrom}
+use Rattle.trace.specs.TraceReading.{refusal, counted, toldListing, tooShort, reading, readingFrom}
 use Rattle.trace.specs.TraceReadingLaws.{refused-so, passed-so, same-count, passed-read}
 use Rattle.listing.specs.Listing.{listing, listingFrom, wordsOver, ListingMeets, ListingFromMeets}
 

@@ -17,7 +17,7 @@ use Rattle.cycle.specs.CycleCountLaws.{one-le}
 use Rattle.rate.specs.declared.Rate.the-variants.{Average}
 use Rattle.rate.specs.Rate.{rateOf}
 use Rattle.rate.specs.RateLaws.{rounded-once}
-use Rattle.tally.specs.Tally.{one, start, startsOf}
+use Rattle.tally.specs.Tally.{start, startsOf}
 
 starts-append : (xs ys : List Item) → startsOf (xs ++ ys) ≡ startsOf xs + startsOf ys
 unfolding startsOf

@@ -1,6 +1,6 @@
 -- What holds of a page as it is handed over: its counts add up, its starts are four of them, its firsts and lasts are the least and the greatest.
 use mathlib.Core.Path.{_≡_, refl, ap, sym, _∙_}
-use Prim.Native.Nat.{ℕ, _+_, _≤_, _<_}
+use Prim.Native.Nat.{ℕ, _+_, _<_}
 use mathlib.Core.Bool.{false}
 use mathlib.Core.List.{List}
 use lib.ListN.{length, getD}

@@ -1,7 +1,7 @@
 -- Laws of what a packet is taken for: "DUMP is legal only after READ or DUMP, FILL only after WRITE or FILL"; a NOP is always legal.
 use Prim.Native.Nat.{ℕ}
 use mathlib.Core.Path.{_≡_, refl}
-use mathlib.Core.Bool.{true, false}
+use mathlib.Core.Bool.{false}
 use Rattle.laws.specs.Tests.{by-test}
 use Rattle.memory.specs.declared.Size.{Size}
 use Rattle.command.specs.declared.Command.the-variants.{Nop}

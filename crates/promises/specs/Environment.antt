@@ -1,7 +1,6 @@
 -- Demand 3 of one place in any environment: each of its packets finds whatever board and memory. With one place the environment is the
 -- events and breakpoint inputs between its packets and the memory lent with each; with several, the others' packets too.
 use Prim.Native.Nat.{ℕ, suc, _+_, _≤_}
-use mathlib.Core.Path.{_≡_}
 use mathlib.Core.Bool.{cond}
 use mathlib.Core.List.{List, [], _∷_, _++_}
 use Rattle.board.specs.declared.Board.{Board}

@@ -5,7 +5,6 @@ use mathlib.Core.Bool.{true}
 use mathlib.Core.List.{List, [], _∷_}
 use lib.Dec.{leb}
 use lib.ListN.{length}
-use native.Mathlib.Omega.{arith}
 use borrow.Author.Tests.{leb-true}
 use Rattle.laws.specs.Tests.{both-hold}
 use Rattle.grounds.specs.declared.Ground.the-variants.{WordTooLarge, MemoryTooLong, StateOutOfRange}
@@ -15,7 +14,6 @@ use Rattle.grounds.specs.Grounds.{check, ifAccepted}
 use Rattle.grounds.specs.GroundLaws.{accepted-holds}
 use Rattle.board.specs.declared.Board.{Board}
 use Rattle.board.specs.declared.Place.{Place}
-use Rattle.board.specs.Board.{freshBoard}
 use Rattle.board.specs.Ranges.{bstatInRange, boardInRange, placeInRange, inRange}
 use Rattle.board.specs.State.{State, stateOf}
 use Rattle.trigger.specs.declared.Event.{Event}

@@ -1,6 +1,6 @@
 -- Demand 3: NOPs after a history. Each is accepted, and what comes between them makes no difference.
 use Prim.Native.Nat.{ℕ, suc, _+_, _≤_}
-use mathlib.Core.Path.{_≡_, refl, sym, ap, ap₂, _∙_, subst, subst₂}
+use mathlib.Core.Path.{_≡_, refl, sym, ap, ap₂, subst₂}
 use mathlib.Core.Bool.{cond}
 use mathlib.Core.List.{List, _∷_}
 use lib.ListN.{length}

@@ -20,7 +20,7 @@ use Rattle.work.specs.Work.{firstReply, phaseAfter, endingOf}
 use Rattle.plan.specs.declared.Plan.{Plan}
 use Rattle.plan.specs.declared.Plan.the-variants.{Hold, Reject, Work}
 use Rattle.plan.specs.Plan.{carriesC, legalWord, noOperands, withOperand, addressIn, valueIn, workAfter, waitsOf, collected, begun, continued, planOf}
-use Rattle.board.specs.State.{State, stateOf, standingOf}
+use Rattle.board.specs.State.{State, standingOf}
 use Rattle.step.specs.Step.{left, planFor, stepped}
 use Rattle.promises.specs.TakenWords.{Word, endingFound, ended, stage}
 use Rattle.promises.specs.TakenWords.Stage.{upperDue, closed}

@@ -2,14 +2,12 @@
 use Prim.Native.Nat.{ℕ}
 use mathlib.Core.Path.{_≡_, refl, sym, ap, _∙_, subst}
 use mathlib.Core.Bool.{Bool, true, false, cond}
-use mathlib.Core.List.{List}
 use lib.ListN.{set}
 use Rattle.command.specs.declared.Command.{Command}
 use Rattle.command.specs.declared.Command.the-variants.{Unknown, Nop, Load, Store, Show, Change}
 use Rattle.command.specs.declared.Source.the-variants as source
 use Rattle.board.specs.declared.Board.{Board}
 use Rattle.board.specs.declared.Status.{Status}
-use Rattle.board.specs.declared.Place.{Place}
 use Rattle.board.specs.Setters.{withStatus, withRegisters, withControl}
 use Rattle.board.specs.State.{State, stateOf, standingOf}
 use Rattle.registers.specs.Registers.{controlIndex, controlListed, controlFetched, controlWritten, debugWritten, boardAfter}

@@ -3,7 +3,6 @@ use Prim.Native.Nat.{ℕ, zero, suc, _/_, _%_, _^_, _≤_, _<_}
 use native.Mathlib.Omega.{arith}
 use mathlib.Core.Path.{_≡_, refl}
 use mathlib.Core.Bool.{Bool, true, false, cond, _||_}
-use mathlib.Core.List.{List}
 use lib.Dec.{eqb}
 use lib.Bits.{and-le-r}
 use lib.ListN.{set, replicate}
@@ -27,8 +26,7 @@ use Rattle.registers.specs.Registers.{is, controlIndex, controlListed, armed, d
 use Rattle.registers.specs.ChangeLaws.{each-change}
 use Rattle.plan.specs.declared.Plan.{Plan}
 use Rattle.plan.specs.declared.Plan.the-variants.{Hold, Reject, Release, Work}
-use Rattle.plan.specs.Plan.{planOf}
-use Rattle.board.specs.Setters.{withStatus, withRegisters, withGeneral, withControl}
+use Rattle.board.specs.Setters.{withStatus, withRegisters, withControl}
 use Rattle.board.specs.State.{State, standingOf}
 use Rattle.step.specs.Step.{left, planFor, stepped}
 use Rattle.sound.specs.SoundPlanLaws.{PlanWithin, plan-within}

@@ -10,7 +10,6 @@ use borrow.Author.Tests.{leb-true}
 use Rattle.laws.specs.Tests.{either}
 use Rattle.memory.specs.declared.Size.{Size}
 use Rattle.memory.specs.declared.Size.the-variants.{Byte, Word, Long}
-use Rattle.memory.specs.declared.Fetch.{Fetch}
 use Rattle.memory.specs.declared.Fetch.the-variants.{Value, BusError}
 use Rattle.memory.specs.Memory.{bytes, aligned, present, valueAt, fetched, stored}
 use Rattle.memory.specs.MemoryLaws.{store-keeps-bytes, store-keeps-length, value-within, limit}

@@ -1,5 +1,4 @@
 -- What the code tells apart: commands whose work leaves the board alone, so that it is not copied, and packets for which no command works.
-use Prim.Native.Nat.{ℕ}
 use mathlib.Core.Bool.{Bool, true, false}
 use Rattle.command.specs.declared.Command.{Command}
 use Rattle.command.specs.declared.Command.the-variants.{Unknown, Nop, Load, Store, Show, Change}

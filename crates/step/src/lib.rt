@@ -1,7 +1,6 @@
 // The step of an accepted packet: the reply from the state before it, then the input (01, "Packets").
 ghost use mathlib.Core.Path.{_≡_};
-ghost use Rattle.board.specs.State.{stateOf, standingOf};
-ghost use Rattle.plan.specs.Plan.{planOf};
+ghost use Rattle.board.specs.State.{stateOf};
 ghost use Rattle.step.specs.Step.{replyNow, chainDuring, chainIn, rejected, holding, released, left, planFor, stepped};
 ghost use Rattle.step.specs.StepMirror.{leavesBoard, withoutWork};
 use board::Board;

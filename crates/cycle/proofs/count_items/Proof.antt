@@ -1,5 +1,4 @@
 -- The casts make 1 of true and 0 of false.
-use Prim.Native.Nat.{_≤_}
 use mathlib.Core.Path.{_≡_, refl, sym}
 use mathlib.Core.Bool.{Bool, true, false}
 use native.Mathlib.Omega.{arith}
