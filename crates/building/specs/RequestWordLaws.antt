@@ -54,13 +54,14 @@ built-clear (Wdreg register value) h =
 built-clear (Read size address) h = (omega (arith, size-code-bound size), long-clear address h)
 built-clear (Write size address value) h =
     let ranges = both-hold (dataInRange Long address) _ h in
-    (omega (arith, size-code-bound size), clear-append (halves address) (dataWords size value) (long-clear address (ranges .0)) (data-clear size value (ranges .1)))
+    let sent = data-clear size value (ranges .1) in
+    (omega (arith, size-code-bound size), clear-append (halves address) (dataWords size value) (long-clear address (ranges .0)) sent)
 built-clear (Dump size) h = (omega (arith, size-code-bound size), tt)
 built-clear (Fill size value) h = (omega (arith, size-code-bound size), data-clear size value h)
 built-clear Go h = (omega arith, tt)
 built-clear Nop h = (omega arith, tt)
 built-clear SyncPc h = (omega arith, tt)
-built-clear (Rcreg rc) h = (omega arith, halves-clear rc (omega (arith, leb-true rc 0xFFF h)))
+built-clear (Rcreg rc) h = let small = leb-true rc 0xFFF h in (omega arith, (omega arith, (omega arith, tt)))
 built-clear (Wcreg rc value) h =
     let ranges = both-hold (dataInRange Long value) _ h in
     (omega arith, clear-append (halves rc) (halves value) (halves-clear rc (omega (arith, leb-true rc 0xFFF (ranges .1)))) (long-clear value (ranges .0)))

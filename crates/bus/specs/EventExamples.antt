@@ -2,13 +2,13 @@
 use Prim.Native.Nat.{ℕ, _%_}
 use mathlib.Core.Path.{_≡_, refl, sym, ap, _∙_, subst}
 use mathlib.Core.Bool.{Bool, true, false}
-use mathlib.Core.List.{[]}
+use mathlib.Core.List.{List, [], _∷_}
 use lib.Dec.{eqb, leb}
 use lib.Bits.{bitOr}
 use borrow.Author.Tests.{eq-eqb}
 use Rattle.command.specs.declared.DebugRegister.{DebugRegister}
 use Rattle.command.specs.declared.DebugRegister.the-variants.{Aatr, Tdr, Pbr, Pbmr, Ablr}
-use Rattle.command.specs.Command as command
+use Rattle.command.specs.Command.{wdmreg, go}
 use Rattle.grounds.specs.Grounds.{noRefusal}
 use Rattle.board.specs.declared.Board.{Board}
 use Rattle.board.specs.Board.{freshBoard, freshPlace}
@@ -27,14 +27,18 @@ use Rattle.bus.specs.Firing.{bstatAfter, responds, firing, seen, statusA
 use Rattle.bus.specs.EventAnswers.{EventTold, toldEvent}
 use Rattle.bus.specs.Events.{eventVerdict, eventOutcome, boardAfterEvent}
 
-abbrev wdmreg : DebugRegister → ℕ → Board → Board
-wdmreg r value b = boardAfter (command.wdmreg r) b 0 value
+-- a debug register to be written
+pub record Setting : Type 0 where
+  pub register : DebugRegister
+  pub value : ℕ
 
-abbrev go : Board → Board
-go b = boardAfter command.go b 0 0
+abbrev setting : DebugRegister → ℕ → Setting
+setting r v = record { register = r; value = v }
 
-abbrev start : ℕ → Event
-start pc = record { pc = pc; bus = Idle }
+-- the board after they are written, in their order, and GO
+abbrev afterSettings : List Setting → Board → Board
+afterSettings [] b = boardAfter go b 0 0
+afterSettings (s ∷ ss) b = afterSettings ss (boardAfter (wdmreg (s .register)) b 0 (s .value))
 
 abbrev answered : Board → Event → EventTold
 answered b event = toldEvent (eventOutcome b freshPlace event)
@@ -42,12 +46,24 @@ answered b event = toldEvent (eventOutcome b freshPlace event)
 abbrev after : Board → Event → Board
 after b event = boardAfterEvent b freshPlace event
 
-abbrev fired : ℕ → Bool → EventTold
+abbrev pub fired : ℕ → Bool → EventTold
 fired level halts = record { refusal = noRefusal; level = level; halted = halts; interrupt = false; captured = [] }
 
--- "PBR 0x1000, PBMR 0xF, TDR 0x40002002, GO"
+-- "P4: PBR 0x1000, PBMR 0xF, TDR 0x40002002, GO: PC 0x1010 doesn't fire, 0x100E does; CSR is 0x24100000."
+abbrev pub p4Settings : List Setting
+p4Settings = setting Pbr 0x1000 ∷ setting Pbmr 0xF ∷ setting Tdr 0x40002002 ∷ []
+
+abbrev pub p4Outside : Event
+p4Outside = record { pc = 0x1010; bus = Idle }
+
+abbrev pub p4Inside : Event
+p4Inside = record { pc = 0x100E; bus = Idle }
+
+abbrev pub p4Csr : ℕ
+p4Csr = 0x24100000
+
 abbrev p4Board : ℕ → Board
-p4Board w = go (wdmreg Tdr 0x40002002 (wdmreg Pbmr 0xF (wdmreg Pbr 0x1000 (freshBoard w))))
+p4Board w = afterSettings p4Settings (freshBoard w)
 
 -- what that comes to
 abbrev p4Set : ℕ → Board
@@ -62,23 +78,22 @@ p4-set : (w : ℕ) → p4Board w ≡ p4Set w
 unfolding freshBoard debugLoaded debugWritten
 p4-set w = refl
 
--- "PC 0x1010 doesn't fire, 0x100E does; CSR is 0x24100000"
 pub record P4 (b : Board) : Type 0 where
-  pub outside : answered b (start 0x1010) ≡ fired 0 false
-  pub inside : answered (after b (start 0x1010)) (start 0x100E) ≡ fired 1 true
-  pub csr : csrValue (after (after b (start 0x1010)) (start 0x100E)) ≡ 0x24100000
+  pub outside : answered b p4Outside ≡ fired 0 false
+  pub inside : answered (after b p4Outside) p4Inside ≡ fired 1 true
+  pub csr : csrValue (after (after b p4Outside) p4Inside) ≡ p4Csr
 
 -- the event that fires nothing changes nothing
-p4-passes : (w : ℕ) → leb w 15 ≡ true → after (p4Set w) (start 0x1010) ≡ p4Set w
+p4-passes : (w : ℕ) → leb w 15 ≡ true → after (p4Set w) p4Outside ≡ p4Set w
 unfolding freshPlace inRange bstatInRange agree levelOf pcGroup addressGroup joined fires firedLevel bstatAfter responds firing statusAfter eventVerdict
 p4-passes w allowed = rw allowed
 
 -- the other halts
-p4-fires : (w : ℕ) → leb w 15 ≡ true → after (p4Set w) (start 0x100E) ≡ withStatus (p4Set w) (withBstat (withTrg (withHalted (p4Set w .status) true) true) 2)
+p4-fires : (w : ℕ) → leb w 15 ≡ true → after (p4Set w) p4Inside ≡ withStatus (p4Set w) (withBstat (withTrg (withHalted (p4Set w .status) true) true) 2)
 unfolding freshPlace inRange bstatInRange agree levelOf pcGroup addressGroup joined fires firedLevel bstatAfter responds firing statusAfter eventVerdict
 p4-fires w allowed = rw allowed
 
-p4-answers : (w : ℕ) → leb w 15 ≡ true → (answered (p4Set w) (start 0x1010) ≡ fired 0 false) × (answered (p4Set w) (start 0x100E) ≡ fired 1 true)
+p4-answers : (w : ℕ) → leb w 15 ≡ true → (answered (p4Set w) p4Outside ≡ fired 0 false) × (answered (p4Set w) p4Inside ≡ fired 1 true)
 unfolding freshPlace inRange bstatInRange agree levelOf pcGroup addressGroup joined fires firedLevel bstatAfter responds firing seen eventVerdict
 p4-answers w allowed = (rw allowed, rw allowed)
 
@@ -86,17 +101,20 @@ p4-of-set : (w : ℕ) → leb w 15 ≡ true → P4 (p4Set w)
 unfolding csrValue
 p4-of-set w allowed = record {
   outside = p4-answers w allowed .0;
-  inside = ap (λ (b : Board). answered b (start 0x100E)) (p4-passes w allowed) ∙ p4-answers w allowed .1;
-  csr = ap csrValue (ap (λ (b : Board). after b (start 0x100E)) (p4-passes w allowed) ∙ p4-fires w allowed);
+  inside = ap (λ (b : Board). answered b p4Inside) (p4-passes w allowed) ∙ p4-answers w allowed .1;
+  csr = ap csrValue (ap (λ (b : Board). after b p4Inside) (p4-passes w allowed) ∙ p4-fires w allowed);
 }
 
 -- at any wait setting
 pub p4 : (w : ℕ) → leb w 15 ≡ true → P4 (p4Board w)
 p4 w allowed = subst P4 (sym (p4-set w)) (p4-of-set w allowed)
 
--- "running, AATR 0x0005, TDR 0x20042002"
+-- "P5: running, AATR 0x0005, TDR 0x20042002": and a PBR and an ABLR
+abbrev pub p5Settings : ℕ → ℕ → List Setting
+p5Settings pbr ablr = setting Pbr pbr ∷ setting Ablr ablr ∷ setting Aatr 0x0005 ∷ setting Tdr 0x20042002 ∷ []
+
 abbrev p5Board : ℕ → ℕ → ℕ → Board
-p5Board w pbr ablr = go (wdmreg Tdr 0x20042002 (wdmreg Aatr 0x0005 (wdmreg Ablr ablr (wdmreg Pbr pbr (freshBoard w)))))
+p5Board w pbr ablr = afterSettings (p5Settings pbr ablr) (freshBoard w)
 
 abbrev p5Set : ℕ → ℕ → ℕ → ℕ → Board
 p5Set bstat w pbr ablr = record {
@@ -111,7 +129,7 @@ unfolding freshBoard debugLoaded debugWritten
 p5-set w pbr ablr = refl
 
 -- "an event with PC equal to PBR, address equal to ABLR, attribute 0x05"
-abbrev p5Event : ℕ → ℕ → ℕ → Event
+abbrev pub p5Event : ℕ → ℕ → ℕ → Event
 p5Event pbr ablr lanes = record { pc = pbr; bus = Carries (record { address = ablr; attribute = 0x05; lanes = lanes }) }
 
 self : (n : ℕ) → eqb n n ≡ true

@@ -1,5 +1,6 @@
 -- Laws of the table: how many words a command has.
 use Prim.Native.Nat.{_+_, _-_, _≤_}
+use mathlib.Core.Path.{_≡_, refl}
 use native.Mathlib.Omega.{arith}
 use Rattle.memory.specs.declared.Size.{Size}
 use Rattle.memory.specs.declared.Size.the-variants.{Byte, Word, Long}
@@ -8,7 +9,7 @@ use Rattle.command.specs.declared.Command.the-variants.{Unknown, Nop, Lo
 use Rattle.command.specs.declared.Base.the-variants.{Address, Pointer}
 use Rattle.command.specs.declared.Source.the-variants as source
 use Rattle.command.specs.declared.Target.the-variants as target
-use Rattle.command.specs.Command.{sizeWords, operandWords, resultWords}
+use Rattle.command.specs.Command.{fill, sizeWords, operandWords, resultWords}
 
 pub size-words-bound : (size : Size) → sizeWords size ≤ 2
 size-words-bound Byte = omega arith
@@ -32,3 +33,20 @@ four-at-most (Change target.Control) = omega arith
 four-at-most (Change (target.Debug r)) = omega arith
 four-at-most (Change target.Run) = omega arith
 four-at-most (Change target.Sync) = omega arith
+
+-- only FILL, of a byte or a word, has one operand word
+pub only-fill-has-one : (c : Command) → operandWords c ≡ 1 → (s : Size) × (c ≡ fill s)
+only-fill-has-one Unknown h = absurd (omega arith)
+only-fill-has-one Nop h = absurd (omega arith)
+only-fill-has-one (Load s Address) h = absurd (omega arith)
+only-fill-has-one (Load s Pointer) h = absurd (omega arith)
+only-fill-has-one (Store s Address) h = absurd (omega arith)
+only-fill-has-one (Store s Pointer) h = (s, refl)
+only-fill-has-one (Show (source.General n)) h = absurd (omega arith)
+only-fill-has-one (Show source.Control) h = absurd (omega arith)
+only-fill-has-one (Show source.Csr) h = absurd (omega arith)
+only-fill-has-one (Change (target.General n)) h = absurd (omega arith)
+only-fill-has-one (Change target.Control) h = absurd (omega arith)
+only-fill-has-one (Change (target.Debug r)) h = absurd (omega arith)
+only-fill-has-one (Change target.Run) h = absurd (omega arith)
+only-fill-has-one (Change target.Sync) h = absurd (omega arith)

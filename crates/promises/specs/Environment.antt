@@ -7,16 +7,21 @@ use mathlib.Core.List.{List, [], _∷_, _++_}
 use Rattle.board.specs.declared.Board.{Board}
 use Rattle.board.specs.declared.Place.{Place}
 use Rattle.board.specs.Board.{freshPlace, atRest}
-use Rattle.port.specs.Sound.{SoundBoard, SoundMemory}
+use Rattle.board.specs.State.{State, stateOf, standingOf}
+use Rattle.sound.specs.Sound.{SoundBoard, SoundMemory}
 use Rattle.promises.specs.Machine.{Machine}
-use Rattle.promises.specs.Words.{Word, Stage, stage}
-use Rattle.promises.specs.Words.Stage.{operandDue, waitDue, upperDue, closed}
+use Rattle.promises.specs.TakenWords.{Word, Stage, stage}
+use Rattle.promises.specs.TakenWords.Stage.{operandDue, waitDue, upperDue, closed}
 
 -- an accepted packet: the board that it finds, the memory lent with it, and its word
 pub record Found : Type 0 where
   pub board : Board
   pub memory : List ℕ
   pub word : ℕ
+
+-- what the packet finds at a place
+abbrev pub foundAt : Found → Place → State
+foundAt f p = stateOf (f .board) p (f .memory)
 
 -- a place with its command words and their closing replies so far, the last first in both
 pub record Trail : Type 0 where
@@ -28,8 +33,7 @@ pub record Trail : Type 0 where
 abbrev pub begins : Found → Place → Word
 begins f p = record {
   packet = f .word;
-  halted = f .board .status .halted;
-  chain = p .chain;
+  standing = standingOf (f .board) p;
   operands = [];
   waited = 0;
   shown = 0;
@@ -42,8 +46,7 @@ begins f p = record {
 abbrev pub goesOn : List ℕ → ℕ → Found → Place → Word → Word
 goesOn operands waited f p o = record {
   packet = o .packet;
-  halted = o .halted;
-  chain = o .chain;
+  standing = o .standing;
   operands = operands;
   waited = waited;
   shown = o .shown;
@@ -56,8 +59,7 @@ goesOn operands waited f p o = record {
 abbrev pub showsUpper : Word → Word
 showsUpper o = record {
   packet = o .packet;
-  halted = o .halted;
-  chain = o .chain;
+  standing = o .standing;
   operands = o .operands;
   waited = o .waited;
   shown = suc (o .shown);
@@ -90,7 +92,7 @@ givenBy (o ∷ os) r gs = givenAt (stage o) r gs
 
 abbrev pub noted : Machine → Trail → Found → Trail
 noted k t f = record {
-  place = k .place (f .board) (t .place) (f .memory) (f .word);
+  place = k .step (foundAt f (t .place)) (f .word) .place;
   words = heard f (t .place) (t .words);
   given = givenBy (t .words) (k .reply (t .place)) (t .given);
 }
@@ -111,21 +113,16 @@ pub record Handed : Type 0 where
 unfoldable pub handed : Machine → Place → List Found → List Handed
 handed k p [] = []
 handed k p (f ∷ fs) =
-    record { reply = k .reply p; memory = k .memory (f .board) p (f .memory) (f .word) } ∷ handed k (k .place (f .board) p (f .memory) (f .word)) fs
+    record { reply = k .reply p; memory = k .step (foundAt f p) (f .word) .memory } ∷ handed k (k .step (foundAt f p) (f .word) .place) fs
 
 -- how many of the packets find the port not at rest
 unfoldable pub underWay : Machine → Place → List Found → ℕ
 underWay k p [] = 0
-underWay k p (f ∷ fs) = cond (atRest (p .phase)) 0 1 + underWay k (k .place (f .board) p (f .memory) (f .word)) fs
+underWay k p (f ∷ fs) = cond (atRest (p .phase)) 0 1 + underWay k (k .step (foundAt f p) (f .word) .place) fs
 
--- a board made with W, its registers within their widths
-pub record BoardOf (w : ℕ) (b : Board) : Type 0 where
-  pub setting : b .w ≡ w
-  pub sound : SoundBoard b
-
--- what a packet may find at a place on such a board: what every call keeps sound, and a word of 17 bits
+-- what a packet may find at a place on a board made with W: what every call keeps sound, and a word of 17 bits
 pub record FoundFits (w : ℕ) (f : Found) : Type 0 where
-  pub board : BoardOf w (f .board)
+  pub board : SoundBoard w (f .board)
   pub memory : SoundMemory (f .memory)
   pub word : f .word ≤ 0x1FFFF
 
@@ -136,4 +133,4 @@ pub data AllFit (w : ℕ) : List Found → Type 0 where
 -- packets that are all NOPs, with whatever each may find
 pub data AllNops (w : ℕ) : List Found → Type 0 where
   done : AllNops w []
-  nop : {fs : List Found} (b : Board) (m : List ℕ) → BoardOf w b → SoundMemory m → AllNops w fs → AllNops w (record { board = b; memory = m; word = 0 } ∷ fs)
+  nop : {fs : List Found} (b : Board) (m : List ℕ) → SoundBoard w b → SoundMemory m → AllNops w fs → AllNops w (record { board = b; memory = m; word = 0 } ∷ fs)

@@ -2,11 +2,12 @@
 use Prim.Native.Nat.{ℕ, _≤_}
 use mathlib.Core.List.{List, [], _∷_}
 use lib.ListN.{length}
+use Rattle.grounds.specs.Grounds.{ifAccepted}
 use Rattle.memory.specs.MemoryLaws.{AllBelow}
 use Rattle.board.specs.Board.{freshBoard, freshPlace}
+use Rattle.board.specs.State.{State, stateOf}
 use Rattle.trigger.specs.declared.Event.{Event}
-use Rattle.port.specs.Packets.{unless}
-use Rattle.promises.specs.Machine.{State, state, Machine}
+use Rattle.promises.specs.Machine.{Machine}
 use Rattle.promises.specs.Environment.{Found}
 
 -- "Memory is a lent buffer": bytes
@@ -20,18 +21,18 @@ pub data Call : Type 0 where
   event : Event → Call
   breakpoint : Call
 
--- an accepted packet: what it finds, and what it leaves
+abbrev pub lending : State → Lent → State
+lending s m = stateOf (s .board) (s .place) (m .bytes)
+
+-- what an accepted packet finds
 abbrev pub finding : State → Lent → ℕ → Found
 finding s m word = record { board = s .board; memory = m .bytes; word = word }
 
-abbrev pub taking : Machine → State → Lent → ℕ → State
-taking k s m word = state (k .board (s .board) (s .place) word) (k .place (s .board) (s .place) (m .bytes) word)
-
 -- what a call leaves: "state, memory and result buffers stay as given" where it is refused
 abbrev pub afterCall : Machine → State → Call → State
-afterCall k s (packet m word) = unless (k .verdict (s .board) (s .place) (m .bytes) word) (taking k s m word) s
-afterCall k s (event e) = k .event (s .board) (s .place) e
-afterCall k s breakpoint = k .input (s .board) (s .place)
+afterCall k s (packet m word) = ifAccepted (k .verdict (lending s m) word) (k .step (lending s m) word) (lending s m)
+afterCall k s (event e) = k .event s e
+afterCall k s breakpoint = k .input s
 
 unfoldable pub after : Machine → State → List Call → State
 after k s [] = s
@@ -39,7 +40,7 @@ after k s (c ∷ cs) = after k (afterCall k s c) cs
 
 -- the accepted packets of a history, each with what it finds
 abbrev pub foundBy : Machine → State → Call → List Found → List Found
-foundBy k s (packet m word) fs = unless (k .verdict (s .board) (s .place) (m .bytes) word) (finding s m word ∷ fs) fs
+foundBy k s (packet m word) fs = ifAccepted (k .verdict (lending s m) word) (finding s m word ∷ fs) fs
 foundBy k s (event e) fs = fs
 foundBy k s breakpoint fs = fs
 
@@ -47,9 +48,9 @@ unfoldable pub finds : Machine → State → List Call → List Found
 finds k s [] = []
 finds k s (c ∷ cs) = foundBy k s c (finds k (afterCall k s c) cs)
 
--- a fresh board with its place
+-- a fresh board with its place, before any memory is lent
 abbrev pub made : ℕ → State
-made w = state (freshBoard w) freshPlace
+made w = stateOf (freshBoard w) freshPlace []
 
 -- NOPs in a row, each with the memory lent with it, within the limit, and any events and breakpoint inputs before, between and after
 pub data Idle : List Lent → List Call → Type 0 where

@@ -6,14 +6,14 @@ use mathlib.Core.List.{List, [], _∷_, _++_}
 use lib.ListN.{length}
 use native.Mathlib.Omega.{arith}
 use Rattle.command.specs.declared.Command.{Command}
-use Rattle.command.specs.Command.{operandWords}
-use Rattle.command.specs.CommandLaws.{four-at-most}
+use Rattle.command.specs.Command.{fill, operandWords}
+use Rattle.command.specs.CommandLaws.{four-at-most, only-fill-has-one}
 use Rattle.board.specs.declared.Operands.{Operands}
 use Rattle.board.specs.declared.Board.{Board}
 use Rattle.work.specs.Access.{accessOf}
 use Rattle.work.specs.Work.{endingOf}
 use Rattle.plan.specs.Plan.{carriesC, noOperands, withOperand, addressIn}
-use Rattle.promises.specs.Words.{anyC, addressSent}
+use Rattle.promises.specs.TakenWords.{anyC, addressSent}
 
 -- the operand words as the port holds them, the last four
 abbrev pub held : Operands → List ℕ → Operands
@@ -37,17 +37,24 @@ pub any-c-end : (ds : List ℕ) (d : ℕ) → anyC ds ≡ false → anyC (ds ++ 
 any-c-end [] d h = or-none (carriesC d)
 any-c-end (x ∷ ds) d h = or-after (carriesC x) (anyC ds) (anyC (ds ++ (d ∷ []))) (carriesC d) h (any-c-end ds d)
 
--- the address among at most four words held is the one sent
-address-held : (ds : List ℕ) → length ds ≤ 4 → addressIn (length ds) (held noOperands ds) ≡ addressSent ds
-address-held [] h = refl
-address-held (a ∷ []) h = omega arith
-address-held (a ∷ b ∷ []) h = refl
-address-held (a ∷ b ∷ c ∷ []) h = refl
-address-held (a ∷ b ∷ c ∷ d ∷ []) h = refl
-address-held (a ∷ b ∷ c ∷ d ∷ e ∷ ds) h = absurd (omega arith)
+-- the address among two to four words held is the one sent
+address-held : (ds : List ℕ) → 2 ≤ length ds → length ds ≤ 4 → addressIn (length ds) (held noOperands ds) ≡ addressSent ds
+address-held [] l h = absurd (omega arith)
+address-held (a ∷ []) l h = absurd (omega arith)
+address-held (a ∷ b ∷ []) l h = refl
+address-held (a ∷ b ∷ c ∷ []) l h = refl
+address-held (a ∷ b ∷ c ∷ d ∷ []) l h = refl
+address-held (a ∷ b ∷ c ∷ d ∷ e ∷ ds) l h = absurd (omega arith)
+
+-- FILL's work looks at no address
+alone : (c : Command) (b : Board) (m : List ℕ) (pointer x y : ℕ) → operandWords c ≡ 1
+    → endingOf c b x (accessOf c m pointer x) ≡ endingOf c b y (accessOf c m pointer y)
+alone c b m pointer x y h = let is-fill : c ≡ fill (only-fill-has-one c h .0) = only-fill-has-one c h .1 in rw is-fill
 
 -- what the work ends in is the same of the address that the port holds and of the one sent
 pub ending-sent : (c : Command) (b : Board) (m : List ℕ) (pointer : ℕ) (ds : List ℕ) → length ds ≡ operandWords c
     → endingOf c b (addressIn (operandWords c) (held noOperands ds)) (accessOf c m pointer (addressIn (operandWords c) (held noOperands ds)))
     ≡ endingOf c b (addressSent ds) (accessOf c m pointer (addressSent ds))
-ending-sent c b m pointer ds h = rw (← h, address-held ds (omega (arith, four-at-most c)))
+ending-sent c b m pointer [] h = rw (← h)
+ending-sent c b m pointer (d ∷ []) h = alone c b m pointer (addressIn (operandWords c) (held noOperands (d ∷ []))) 0 (omega arith)
+ending-sent c b m pointer (d ∷ e ∷ ds) h = rw (← h, address-held (d ∷ e ∷ ds) (omega arith) (omega (arith, four-at-most c)))

@@ -12,18 +12,18 @@ use Rattle.board.specs.declared.Operands.{Operands}
 use Rattle.work.specs.Access.{accessOf}
 use Rattle.work.specs.Work.{endingOf}
 use Rattle.plan.specs.Plan.{legalWord, noOperands, addressIn, waitsOf}
-use Rattle.promises.specs.Words.{Word, anyC, endingFound, ended, stage}
-use Rattle.promises.specs.Words.Stage.{operandDue, waitDue}
+use Rattle.promises.specs.TakenWords.{Word, anyC, endingFound, ended, stage}
+use Rattle.promises.specs.TakenWords.Stage.{operandDue, waitDue}
 use Rattle.promises.specs.Environment.{showsUpper}
 use Rattle.promises.specs.OperandLaws.{held, ending-sent}
 
 pub not-none : (n : ℕ) → eqb n 0 ≡ false → 1 ≤ n
 not-none n e = omega (arith, eqb-false n 0 e)
 
--- a lawful word with so many operands still due, none with C
+-- a legal word with so many operands still due, none with C
 pub record Open (w : ℕ) (c : Command) (left : ℕ) (t : Operands) (o : Word) : Type 0 where
   pub same : decoded (o .packet) ≡ c
-  pub judged : legalWord (o .packet) (o .halted) (o .chain) ≡ true
+  pub judged : legalWord (o .packet) (o .standing) ≡ true
   pub clear : anyC (o .operands) ≡ false
   pub kept : held noOperands (o .operands) ≡ t
   pub count : length (o .operands) + left ≡ operandWords c

@@ -3,3 +3,4 @@ pub mod RunUnique
 pub mod RunMirror
 pub mod RunLaws
 pub mod ShortWayLaws
+pub mod PacketExamples

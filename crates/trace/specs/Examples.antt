@@ -15,9 +15,12 @@ use Rattle.trace.specs.Listing.{Told, refusal, counted, tooLong, earlies
 abbrev pub p9 : List ℕ
 p9 = 0x10 ∷ 0x50 ∷ 0x90 ∷ 0x04 ∷ 0x03 ∷ 0x02 ∷ 0x11 ∷ 0xF0 ∷ 0xF0 ∷ []
 
+abbrev pub p9Words : List ℕ
+p9Words = (0 * 16 + 1) ∷ 0 ∷ (1 * 16 + 5) ∷ 0 ∷ (6 * 16 + 9) ∷ 4660 ∷ (6 * 16 + 1) ∷ 0 ∷ (7 * 16 + 15) ∷ 0 ∷ []
+
 pub record Shown : Type 0 where
   -- "trace cycles=9 items=5", and its lines "0 1 0", "1 5 0", "6 9 4660", "6 1 0", "7 15 0"
-  pub p9-words : words (items p9) ≡ (0 * 16 + 1) ∷ 0 ∷ (1 * 16 + 5) ∷ 0 ∷ (6 * 16 + 9) ∷ 4660 ∷ (6 * 16 + 1) ∷ 0 ∷ (7 * 16 + 15) ∷ 0 ∷ []
+  pub p9-words : words (items p9) ≡ p9Words
   -- "five items into 10 words, into 9"
   pub ten-words : listing p9 10 ≡ counted 5
   pub nine-words : listing p9 9 ≡ refusal 11 0

@@ -7,26 +7,25 @@ use lib.ListN.{length}
 use native.Mathlib.Omega.{arith}
 use Rattle.board.specs.declared.Place.{Place}
 use Rattle.board.specs.Board.{atRest}
-use Rattle.port.specs.Packets.{placeNext}
-use Rattle.rest.specs.ToGo.{toGo, to-go-at-most, none-to-go, some-to-go}
+use Rattle.step.specs.Step.{stepped}
+use Rattle.rest.specs.ToGoLaws.{toGo, to-go-at-most, none-to-go, some-to-go}
 use Rattle.rest.specs.NopLaws.{nop-takes-one-off}
 use Rattle.promises.specs.Machine.{standIn}
-use Rattle.promises.specs.Words.{Word, Stage, stage, isClosed}
-use Rattle.promises.specs.Words.Stage.{operandDue, waitDue, upperDue, closed}
-use Rattle.promises.specs.Environment.{Found, Trail, heardAt, heard, noted, trail, begun, underWay, AllFit, AllNops}
-use Rattle.promises.specs.Promises.{lastClosed, PlaceRests}
-use Rattle.port.specs.Sound.{SoundPlace}
-use Rattle.port.specs.SoundLaws.{fresh-place-is-sound}
+use Rattle.promises.specs.TakenWords.{Word, Stage, stage, isClosed}
+use Rattle.promises.specs.TakenWords.Stage.{operandDue, waitDue, upperDue, closed}
+use Rattle.promises.specs.Environment.{Found, foundAt, Trail, heardAt, heard, noted, trail, begun, underWay, AllFit, AllNops}
+use Rattle.promises.specs.Demand3.{lastClosed, PlaceRests}
+use Rattle.sound.specs.Sound.{SoundPlace}
+use Rattle.sound.specs.SoundLaws.{packet-keeps-place, fresh-place-is-sound}
 use Rattle.promises.specs.Environment.AllFit.{none, more}
 use Rattle.promises.specs.Environment.AllNops.{done, nop}
-use Rattle.promises.specs.FitLaws.{place-kept}
-use Rattle.promises.specs.PlaceClosing.{Kept, kept-noted, kept-from-fresh, place-closes-kept}
+use Rattle.promises.specs.PlaceClosingLaws.{Kept, kept-noted, kept-from-fresh, place-closes-kept}
 
 pub place-fits-trail : (w : ℕ) (t : Trail) (fs : List Found) → AllFit w fs → SoundPlace w (t .place) → SoundPlace w (trail standIn t fs .place)
 unfolding trail
 place-fits-trail w t fs none h = h
 place-fits-trail w t fs (more {f = f} {fs = gs} fits others) h =
-    place-fits-trail w (noted standIn t f) gs others (place-kept w (f .board) (t .place) (fits .board) h (f .memory) (fits .memory) (f .word))
+    place-fits-trail w (noted standIn t f) gs others (packet-keeps-place w (foundAt f (t .place)) (fits .board) h (fits .memory) (f .word))
 
 -- a packet is taken as a command word exactly where the last word is closed
 one-word-more : (f : Found) (p : Place) (os : List Word) → length (heard f p os) + cond (lastClosed os) 0 1 ≡ suc (length os)
@@ -54,9 +53,10 @@ unfolding trail underWay
 brings w t fs done k h = record { rest = λ l. ap atRest (none-to-go w (t .place .phase) (h .phase) l); number = zero-le; words = refl }
 brings w t fs (nop {fs = gs} b m board memory others) k h =
     let f : Found = record { board = b; memory = m; word = 0 } in
-    let one : toGo w (placeNext b (t .place) m 0 .phase) ≤ toGo w (t .place .phase) - 1 = nop-takes-one-off w b (t .place) m (board .setting) (h .phase) in
+    let one : toGo w (stepped (foundAt f (t .place)) 0 .place .phase) ≤ toGo w (t .place .phase) - 1 =
+    nop-takes-one-off w (foundAt f (t .place)) (board .setting) (h .phase) in
     let next : Brings w (noted standIn t f) gs =
-    brings w (noted standIn t f) gs others (kept-noted w t f (board .setting) k) (place-kept w b (t .place) board h m memory 0) in
+    brings w (noted standIn t f) gs others (kept-noted w t f (board .setting) k) (packet-keeps-place w (foundAt f (t .place)) board h memory 0) in
     let taken : length (heard f (t .place) (t .words)) + cond (atRest (t .place .phase)) 0 1 ≡ suc (length (t .words)) =
     rw (place-closes-kept w t k .rests) (one-word-more f (t .place) (t .words)) in
     record {

@@ -7,8 +7,9 @@ use lib.Dec.{ltb}
 use Rattle.memory.specs.MemoryLaws.{AllBelow}
 use native.Mathlib.Omega.{arith}
 use borrow.Author.Tests.{ltb-true}
-use Rattle.promises.specs.Machine.{State, standIn}
-use Rattle.port.specs.Both.{first, second}
+use Rattle.laws.specs.Tests.{both-hold}
+use Rattle.board.specs.State.{State}
+use Rattle.promises.specs.Machine.{standIn}
 use Rattle.promises.specs.Environment.{Handed, handed}
 use Rattle.promises.specs.History.{Lent, Call, finds}
 use Rattle.promises.specs.History.Call.{packet}
@@ -17,13 +18,13 @@ abbrev pub allBytes : List ℕ → Bool
 allBytes [] = true
 allBytes (x ∷ xs) = ltb x 256 && allBytes xs
 
-pub narrow : (xs : List ℕ) → allBytes xs ≡ true → AllBelow 256 xs
-narrow [] h i = omega arith
-narrow (x ∷ xs) h zero = ltb-true x 256 (first (ltb x 256) (allBytes xs) h)
-narrow (x ∷ xs) h (suc i) = narrow xs (second (ltb x 256) (allBytes xs) h) i
+pub bytes-narrow : (xs : List ℕ) → allBytes xs ≡ true → AllBelow 256 xs
+bytes-narrow [] h i = omega arith
+bytes-narrow (x ∷ xs) h zero = ltb-true x 256 (both-hold (ltb x 256) (allBytes xs) h .0)
+bytes-narrow (x ∷ xs) h (suc i) = bytes-narrow xs (both-hold (ltb x 256) (allBytes xs) h .1) i
 
 abbrev pub lent : (xs : List ℕ) → allBytes xs ≡ true → Lent
-lent xs h = record { bytes = xs; narrow = narrow xs h }
+lent xs h = record { bytes = xs; narrow = bytes-narrow xs h }
 
 abbrev pub noMemory : Lent
 noMemory = lent [] refl

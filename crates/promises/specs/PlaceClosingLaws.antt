@@ -8,17 +8,17 @@ use Rattle.board.specs.declared.Phase.{Phase}
 use Rattle.board.specs.declared.Phase.the-variants.{Rest, Due, Waiting, Low}
 use Rattle.board.specs.Board.{freshPlace, atRest}
 use Rattle.plan.specs.Plan.{noOperands}
-use Rattle.port.specs.Packets.{replyIn, replyNow}
+use Rattle.step.specs.Step.{replyIn, replyNow}
 use Rattle.promises.specs.Machine.{standIn}
-use Rattle.promises.specs.Words.{Word, Stage, stage, closing, closingAt, replyAt, isClosed}
-use Rattle.promises.specs.Words.Closing.{reply}
-use Rattle.promises.specs.Words.Stage.{operandDue, waitDue, upperDue, closed}
+use Rattle.promises.specs.TakenWords.{Word, Stage, stage, closing, closingAt, replyAt, isClosed}
+use Rattle.promises.specs.TakenWords.Closing.{reply}
+use Rattle.promises.specs.TakenWords.Stage.{operandDue, waitDue, upperDue, closed}
 use Rattle.promises.specs.Environment.{Found, Trail, heardAt, heard, givenAt, givenBy, noted, trail, begun, AllFit}
-use Rattle.promises.specs.Promises.{nextReply, lastClosed, earlier, PlaceCloses}
+use Rattle.promises.specs.Demand3.{nextReply, lastClosed, earlier, PlaceCloses}
 use Rattle.promises.specs.Environment.AllFit.{none, more}
 use Rattle.promises.specs.OperandLaws.{held}
 use Rattle.promises.specs.StageLaws.{stage-due, stage-waiting}
-use Rattle.promises.specs.ClosingLaws.{Tells, PlaceTells, tells-next}
+use Rattle.promises.specs.PlaceTellsLaws.{Tells, PlaceTells, tells-next}
 
 module _ (w : ℕ) where
   told-next : (phase : Phase) (next : ℕ) (os : List Word) → Tells w phase next os → replyIn phase next ≡ nextReply os
@@ -73,7 +73,7 @@ next-reply w t h = told-next w (t .place .phase) (t .place .next) (t .words) (h 
 
 pub kept-noted : (w : ℕ) (t : Trail) (f : Found) → f .board .w ≡ w → Kept w t → Kept w (noted standIn t f)
 kept-noted w t f e h = record {
-  tells = tells-next w f (t .place) (t .words) e (h .tells);
+  tells = tells-next w f (t .place) e (t .words) (h .tells);
   paid = paid-next f (t .place) (replyNow (t .place)) (t .words) (t .given) (next-reply w t h) (h .paid);
 }
 

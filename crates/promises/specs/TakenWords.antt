@@ -7,8 +7,9 @@ use mathlib.Core.List.{List, [], _∷_}
 use lib.Dec.{eqb}
 use lib.ListN.{length}
 use Rattle.command.specs.Command.{decoded, operandWords}
+use Rattle.command.specs.Reply.{complete, notReady, busError, illegal}
 use Rattle.board.specs.declared.Board.{Board}
-use Rattle.board.specs.declared.Chain.{Chain}
+use Rattle.board.specs.declared.Standing.{Standing}
 use Rattle.work.specs.declared.Ending.{Ending}
 use Rattle.work.specs.declared.Ending.the-variants.{Complete, Failed, OneWord, TwoWords}
 use Rattle.work.specs.Access.{accessOf}
@@ -19,9 +20,8 @@ use Rattle.plan.specs.Plan.{carriesC, legalWord, long, waitsOf}
 pub record Word : Type 0 where
   -- its packet, C and all
   pub packet : ℕ
-  -- halted and the chain as they stood when it was taken
-  pub halted : Bool
-  pub chain : Chain
+  -- "halted and the chain as they stand where these rules judge them"
+  pub standing : Standing
   -- its operand packets so far, in the order sent, C and all
   pub operands : List ℕ
   -- how many packets it has waited, and how many have carried out its upper result word
@@ -47,10 +47,10 @@ abbrev pub anyC : List ℕ → Bool
 anyC [] = false
 anyC (d ∷ ds) = carriesC d || anyC ds
 
--- "Addresses .. go upper word first": the first two operand words. FILL alone has one, its data, and its work looks at no address
+-- "Addresses .. go upper word first": the first two operand words. FILL alone has one, its data: no address
 abbrev pub addressSent : List ℕ → ℕ
 addressSent [] = 0
-addressSent (only ∷ []) = only
+addressSent (only ∷ []) = 0
 addressSent (upper ∷ low ∷ ds) = long upper low
 
 -- what its work ends in
@@ -60,23 +60,23 @@ endingFound o =
 
 -- "its last result word, complete or bus error"; the upper of two has left before it
 abbrev pub ended : ℕ → Ending → Stage
-ended shown Complete = closed 0x0FFFF
-ended shown Failed = closed 0x10001
+ended shown Complete = closed complete
+ended shown Failed = closed busError
 ended shown (OneWord v) = closed v
 ended zero (TwoWords v) = upperDue (v / 65536)
 ended (suc n) (TwoWords v) = closed (v % 65536)
 
--- "0x1FFFF if it is illegal or dropped": judged lawful, an operand with C, all operands there, all packets waited
+-- "0x1FFFF if it is illegal or dropped": judged legal, an operand with C, all operands there, all packets waited
 abbrev pub stageBy : Bool → Bool → Bool → Bool → Stage → Stage
-stageBy false dropped there waited end = closed 0x1FFFF
-stageBy true true there waited end = closed 0x1FFFF
+stageBy false dropped there waited end = closed illegal
+stageBy true true there waited end = closed illegal
 stageBy true false false waited end = operandDue
 stageBy true false true false end = waitDue
 stageBy true false true true end = end
 
 unfoldable pub stage : Word → Stage
 stage o =
-    stageBy (legalWord (o .packet) (o .halted) (o .chain)) (anyC (o .operands)) (eqb (length (o .operands)) (operandWords (decoded (o .packet))))
+    stageBy (legalWord (o .packet) (o .standing)) (anyC (o .operands)) (eqb (length (o .operands)) (operandWords (decoded (o .packet))))
     (eqb (o .waited) (waitsOf (o .board .w) (decoded (o .packet))))
     (ended (o .shown) (endingFound o))
 
@@ -96,8 +96,8 @@ closing o = closingAt (stage o)
 
 -- the reply that the rules give next for a word
 abbrev pub replyAt : Stage → ℕ
-replyAt operandDue = 0x10000
-replyAt waitDue = 0x10000
+replyAt operandDue = notReady
+replyAt waitDue = notReady
 replyAt (upperDue upper) = upper
 replyAt (closed last) = last
 

@@ -7,13 +7,15 @@ use lib.ListN.{replicate}
 use Rattle.command.specs.Command.{decoded, decodedWord}
 use Rattle.board.specs.Board.{freshBoard, freshPlace, atRest}
 use Rattle.board.specs.Ranges.{inRange, bstatInRange}
-use Rattle.registers.specs.Registers.{controlPlace, controlFetched, withControl}
+use Rattle.board.specs.State.{State}
+use Rattle.registers.specs.Registers.{controlIndex, controlFetched, controlWritten}
 use Rattle.plan.specs.Plan.{workAfter, collected, begun, continued}
-use Rattle.port.specs.Packets.{planFor, placeNext, boardNext, packetVerdict}
-use Rattle.promises.specs.Machine.{State, standIn}
+use Rattle.step.specs.Step.{planFor, stepped}
+use Rattle.port.specs.Packet.{packetVerdict}
+use Rattle.promises.specs.Machine.{standIn}
 use Rattle.promises.specs.Environment.{underWay}
 use Rattle.promises.specs.History.{after, finds, made, nops}
-use Rattle.promises.specs.Lending.{noMemory, sends}
+use Rattle.promises.specs.LendingLaws.{noMemory, sends}
 
 -- the history of one packet, WCREG's command word
 abbrev pub asked : ℕ → State
@@ -31,9 +33,9 @@ pub record Tight (w : ℕ) : Type 0 where
   pub number : underWay standIn (asked w .place) (finds standIn (asked w) (nops (replicate (5 + w) noMemory))) ≡ 4 + w
 
 pub tight-at-0 : Tight 0
-unfolding freshBoard freshPlace inRange bstatInRange decoded decodedWord controlPlace controlFetched withControl workAfter collected begun continued planFor placeNext boardNext packetVerdict underWay after finds
+unfolding freshBoard freshPlace inRange bstatInRange decoded decodedWord controlIndex controlFetched controlWritten workAfter collected begun continued planFor stepped packetVerdict underWay after finds
 tight-at-0 = record { fewer = refl; enough = refl; number = refl }
 
 pub tight-at-15 : Tight 15
-unfolding freshBoard freshPlace inRange bstatInRange decoded decodedWord controlPlace controlFetched withControl workAfter collected begun continued planFor placeNext boardNext packetVerdict underWay after finds
+unfolding freshBoard freshPlace inRange bstatInRange decoded decodedWord controlIndex controlFetched controlWritten workAfter collected begun continued planFor stepped packetVerdict underWay after finds
 tight-at-15 = record { fewer = refl; enough = refl; number = refl }

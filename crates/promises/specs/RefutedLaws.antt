@@ -6,26 +6,29 @@ use mathlib.Core.List.{List, [], _∷_}
 use lib.ListN.{replicate}
 use native.Mathlib.Omega.{arith}
 use Rattle.command.specs.Command.{decoded, decodedWord}
-use Rattle.board.specs.declared.Board.{Board}
+use Rattle.command.specs.Reply.{illegal}
 use Rattle.board.specs.declared.Place.{Place}
 use Rattle.board.specs.declared.Phase.{Phase}
 use Rattle.board.specs.declared.Phase.the-variants.{Rest, Due, Waiting, Low}
 use Rattle.board.specs.Board.{freshBoard, freshPlace, atRest}
 use Rattle.board.specs.Ranges.{inRange, bstatInRange}
+use Rattle.board.specs.Setters.{placeWith}
+use Rattle.board.specs.State.{State, stateOf}
 use Rattle.memory.specs.Memory.{fetched}
 use Rattle.trigger.specs.declared.Event.{Event}
 use Rattle.plan.specs.Plan.{carriesC, workAfter, collected, begun, continued}
-use Rattle.port.specs.Packets.{planFor, replyNow, placeNext, boardNext, packetVerdict}
-use Rattle.promises.specs.Machine.{state, Machine, standIn}
-use Rattle.promises.specs.Words.{stage, closing}
-use Rattle.promises.specs.Words.Closing.{reply}
+use Rattle.step.specs.Step.{planFor, replyNow, stepped}
+use Rattle.port.specs.Packet.{packetVerdict}
+use Rattle.promises.specs.Machine.{Machine, standIn}
+use Rattle.promises.specs.TakenWords.{stage, closing}
+use Rattle.promises.specs.TakenWords.Closing.{reply}
 use Rattle.promises.specs.Environment.{Found, trail, AllFit, AllNops}
 use Rattle.promises.specs.History.{Call, after, finds, made, Idle}
 use Rattle.promises.specs.History.Call.{event}
-use Rattle.port.specs.Sound.{SoundMemory}
-use Rattle.promises.specs.Promises.{Demand3, PlaceDemand3}
-use Rattle.promises.specs.HistoryLaws.{fresh-sound}
-use Rattle.promises.specs.Lending.{noMemory, sends}
+use Rattle.sound.specs.Sound.{SoundMemory}
+use Rattle.promises.specs.Demand3.{Demand3, PlaceDemand3}
+use Rattle.promises.specs.HistoryLaws.{fresh-fits}
+use Rattle.promises.specs.LendingLaws.{noMemory, sends}
 
 -- a packet on a fresh board of W = 2, with no memory
 abbrev onFresh : ℕ → Found
@@ -35,43 +38,38 @@ no-memory-fits : SoundMemory []
 no-memory-fits = record { bytes = λ i. omega arith; limit = omega arith }
 
 one-fits : (word : ℕ) → word ≤ 0x1FFFF → AllFit 2 (onFresh word ∷ [])
-one-fits word h = AllFit.more (record { board = fresh-sound 2 (omega arith) .board; memory = no-memory-fits; word = h }) AllFit.none
+one-fits word h = AllFit.more (record { board = fresh-fits 2 (omega arith) .board; memory = no-memory-fits; word = h }) AllFit.none
 
 nops-fit : (n : ℕ) → AllNops 2 (replicate n (onFresh 0))
 nops-fit zero = AllNops.done
-nops-fit (suc n) = AllNops.nop (freshBoard 2) [] (fresh-sound 2 (omega arith) .board) no-memory-fits (nops-fit n)
+nops-fit (suc n) = AllNops.nop (freshBoard 2) [] (fresh-fits 2 (omega arith) .board) no-memory-fits (nops-fit n)
 
 -- A port that is always at rest: whatever else it does, it rests after READ's command word, whose operands are missing.
-pub always-at-rest : (k : Machine) → ((b : Board) (p : Place) (m : List ℕ) (word : ℕ) → k .place b p m word .phase ≡ Rest) → PlaceDemand3 k → ⊥
+pub always-at-rest : (k : Machine) → ((s : State) (word : ℕ) → k .step s word .place .phase ≡ Rest) → PlaceDemand3 k → ⊥
 unfolding freshBoard freshPlace trail stage decoded decodedWord
 always-at-rest k rests d =
-    true≢false (sym (ap atRest (rests (freshBoard 2) freshPlace [] 0x1980)) ∙ d .closing 2 (onFresh 0x1980 ∷ []) (one-fits 0x1980 (omega arith)) .rests)
+    true≢false (sym (ap atRest (rests (stateOf (freshBoard 2) freshPlace []) 0x1980)) ∙ d .closing 2 (onFresh 0x1980 ∷ []) (one-fits 0x1980 (omega arith)) .rests)
 
 -- A port that is never at rest again: it replies 0x10000 for ever, or anything else.
-pub never-at-rest : (k : Machine) → ((b : Board) (p : Place) (m : List ℕ) (word : ℕ) → atRest (k .place b p m word .phase) ≡ false) → PlaceDemand3 k → ⊥
+pub never-at-rest : (k : Machine) → ((s : State) (word : ℕ) → atRest (k .step s word .place .phase) ≡ false) → PlaceDemand3 k → ⊥
 unfolding trail
-never-at-rest k moves d = true≢false (sym (d .rest 2 [] (replicate 6 (onFresh 0)) AllFit.none (nops-fit 6) .enough (omega arith)) ∙ moves (freshBoard 2) _ [] 0)
+never-at-rest k moves d = true≢false (sym (d .rest 2 [] (replicate 6 (onFresh 0)) AllFit.none (nops-fit 6) .enough (omega arith)) ∙ moves (stateOf (freshBoard 2) _ []) 0)
 
 -- An event that moves the phase, or anything else of the place that a history leads to.
 pub event-moves-the-place : (k : Machine) (w : ℕ) → w ≤ 15 → (history : List Call) (e : Event)
-    → (k .event (after k (made w) history .board) (after k (made w) history .place) e .place ≡ after k (made w) history .place → ⊥) → Demand3 k → ⊥
+    → (k .event (after k (made w) history) e .place ≡ after k (made w) history .place → ⊥) → Demand3 k → ⊥
 unfolding after
 event-moves-the-place k w small history e moved d = moved (d .rest w small history .nops [] (event e ∷ []) (Idle.withEvent e Idle.none) .unmoved .place)
 
--- the proved machine with another step of the place
-abbrev pub withStep : (Board → Place → List ℕ → ℕ → Place) → Machine
-withStep step = record {
-  verdict = standIn .verdict;
-  reply = standIn .reply;
-  place = step;
-  board = standIn .board;
-  memory = standIn .memory;
-  event = standIn .event;
-  input = standIn .input;
-}
+-- the proved machine with another step
+abbrev pub withStep : (State → ℕ → State) → Machine
+withStep step = record { verdict = standIn .verdict; reply = standIn .reply; step = step; event = standIn .event; input = standIn .input }
 
-abbrev inPhase : Place → Phase → Place
-inPhase p phase = record { phase = phase; chain = p .chain; pointer = p .pointer; next = p .next }
+abbrev atPlace : State → Place → State
+atPlace s p = stateOf (s .board) p (s .memory)
+
+abbrev inPhase : State → Phase → State
+inPhase s phase = atPlace s (placeWith (s .place) phase (s .place .chain) (s .place .pointer) (s .place .next))
 
 -- work done one packet early: with an operand still missing,
 abbrev hastyOperand : Phase → Phase
@@ -88,33 +86,29 @@ hastyWait (Waiting c left address value) = Waiting c (left - 1) address value
 hastyWait (Low low) = Low low
 
 abbrev pub early : (Phase → Phase) → Machine
-early hasty = withStep (λ b p m word. placeNext b (inPhase p (hasty (p .phase))) m word)
+early hasty = withStep (λ s word. stepped (inPhase s (hasty (s .place .phase))) word)
 
 abbrev history : List ℕ → List Call
 history words = sends noMemory words
 
 -- WDMREG CSR with one operand of two
 pub operand-early : Demand3 (early hastyOperand) → ⊥
-unfolding freshBoard freshPlace inRange bstatInRange decoded decodedWord workAfter collected begun continued planFor placeNext boardNext packetVerdict trail stage finds
+unfolding freshBoard freshPlace inRange bstatInRange decoded decodedWord workAfter collected begun continued planFor stepped packetVerdict trail stage finds
 operand-early d = true≢false (d .closing 2 (omega arith) (history (0x2C80 ∷ 0 ∷ [])) .closes .rests)
 
 -- a byte READ with one packet of two waited
 pub wait-early : Demand3 (early hastyWait) → ⊥
-unfolding freshBoard freshPlace inRange bstatInRange fetched decoded decodedWord workAfter collected begun continued planFor placeNext boardNext packetVerdict trail stage finds
+unfolding freshBoard freshPlace inRange bstatInRange fetched decoded decodedWord workAfter collected begun continued planFor stepped packetVerdict trail stage finds
 wait-early d = true≢false (d .closing 2 (omega arith) (history (0x1900 ∷ 0 ∷ 0 ∷ 0 ∷ [])) .closes .rests)
 
 -- a closing reply that is whatever is held: the next reply never changes
 abbrev pub holding : Machine
-holding = withStep (λ b p m word. record {
-  phase = placeNext b p m word .phase;
-  chain = placeNext b p m word .chain;
-  pointer = placeNext b p m word .pointer;
-  next = p .next;
-})
+holding = withStep (λ s word.
+    let next = stepped s word in atPlace next (placeWith (next .place) (next .place .phase) (next .place .chain) (next .place .pointer) (s .place .next)))
 
 -- 0x19C0 is illegal
 pub whatever-is-held : Demand3 holding → ⊥
-unfolding freshBoard freshPlace inRange bstatInRange decoded decodedWord begun planFor replyNow placeNext boardNext packetVerdict trail stage finds
+unfolding freshBoard freshPlace inRange bstatInRange decoded decodedWord begun planFor replyNow stepped packetVerdict trail stage finds
 whatever-is-held d = let z : _≡_ {A = ℕ} 0x0FFFF 0x1FFFF = d .closing 2 (omega arith) (history (0x19C0 ∷ [])) .closes .next in omega arith
 
 -- a dropped command with two closing replies: 0x1FFFF leaves as an upper word does, and once more at rest
@@ -125,11 +119,11 @@ isDue (Waiting c left address value) = false
 isDue (Low low) = false
 
 abbrev pub twice : Machine
-twice = withStep (λ b p m word. cond (isDue (p .phase) && carriesC word) (inPhase (placeNext b p m word) (Low 0x1FFFF)) (placeNext b p m word))
+twice = withStep (λ s word. cond (isDue (s .place .phase) && carriesC word) (inPhase (stepped s word) (Low illegal)) (stepped s word))
 
 -- WDMREG CSR, dropped at its first operand
 pub two-closing-replies : Demand3 twice → ⊥
-unfolding freshBoard freshPlace inRange bstatInRange decoded decodedWord collected begun continued planFor placeNext boardNext packetVerdict trail stage finds
+unfolding freshBoard freshPlace inRange bstatInRange decoded decodedWord collected begun continued planFor stepped packetVerdict trail stage finds
 two-closing-replies d = true≢false (sym (d .closing 2 (omega arith) (history (0x2C80 ∷ 0x10000 ∷ [])) .closes .rests))
 
 -- an event that brings the port to rest, so that the command under way is lost
@@ -137,13 +131,11 @@ abbrev pub resting : Machine
 resting = record {
   verdict = standIn .verdict;
   reply = standIn .reply;
-  place = standIn .place;
-  board = standIn .board;
-  memory = standIn .memory;
-  event = λ b p e. state b (inPhase p Rest);
+  step = standIn .step;
+  event = λ s e. inPhase s Rest;
   input = standIn .input;
 }
 
 pub event-moves-the-phase : (e : Event) → Demand3 resting → ⊥
-unfolding freshBoard freshPlace inRange bstatInRange decoded decodedWord workAfter collected begun continued planFor placeNext boardNext packetVerdict after
+unfolding freshBoard freshPlace inRange bstatInRange decoded decodedWord workAfter collected begun continued planFor stepped packetVerdict after
 event-moves-the-phase e = event-moves-the-place resting 2 (omega arith) (history (0x2C80 ∷ [])) e (λ same. true≢false (ap (λ (p : Place). atRest (p .phase)) same))

@@ -6,23 +6,23 @@ use lib.ListN.{length}
 use native.Mathlib.Omega.{arith}
 use Rattle.board.specs.declared.Place.{Place}
 use Rattle.board.specs.Board.{atRest}
-use Rattle.promises.specs.Machine.{State, standIn}
+use Rattle.board.specs.State.{State}
+use Rattle.promises.specs.Machine.{standIn}
 use Rattle.promises.specs.Environment.{Trail, begun, AllFit, AllNops}
 use Rattle.promises.specs.History.{Lent, Call, after, finds, made, Idle}
-use Rattle.promises.specs.Promises.{PlaceRests, NopsBring, trailOf, NeverStranded, ClosingReplies, Demand3, PlaceDemand3}
-use Rattle.port.specs.Sound.{SoundPlace}
-use Rattle.promises.specs.FitLaws.{in-range}
-use Rattle.promises.specs.PlaceClosing.{kept-from-fresh, place-closes}
-use Rattle.promises.specs.PlaceRest.{place-rests-from, place-rests}
-use Rattle.promises.specs.HistoryLaws.{Sound, fresh-sound, sound-after, finds-fit, place-of-trail}
+use Rattle.promises.specs.Demand3.{PlaceRests, NopsBring, trailOf, NeverStranded, ClosingReplies, Demand3, PlaceDemand3}
+use Rattle.sound.specs.Sound.{SoundPlace}
+use Rattle.promises.specs.PlaceClosingLaws.{kept-from-fresh, place-closes}
+use Rattle.promises.specs.PlaceRestLaws.{place-rests-from, place-rests}
+use Rattle.promises.specs.HistoryLaws.{Fits, ranged, fresh-fits, history-fits, finds-fit, place-of-trail}
 use Rattle.promises.specs.IdleLaws.{idle-found, idle-unmoved}
 
 module _ (w : ℕ) (small : w ≤ 15) (history : List Call) where
-  reached : Sound w (after standIn (made w) history)
-  reached = sound-after w (made w) history (fresh-sound w small)
+  reached : Fits w (after standIn (made w) history)
+  reached = history-fits w (made w) history (fresh-fits w small)
 
   found : AllFit w (finds standIn (made w) history)
-  found = finds-fit w (made w) history (fresh-sound w small)
+  found = finds-fit w (made w) history (fresh-fits w small)
 
   here : after standIn (made w) history .place ≡ trailOf standIn w history .place
   here = place-of-trail (made w) begun history refl
@@ -46,7 +46,7 @@ module _ (w : ℕ) (small : w ≤ 15) (history : List Call) where
 
   pub never-stranded : NeverStranded standIn w history
   never-stranded = record {
-    ranged = in-range w (after standIn (made w) history .board) (after standIn (made w) history .place) (reached .board) (reached .place);
+    ranged = ranged w (after standIn (made w) history) reached;
     nops = nops-bring;
   }
 

@@ -4,18 +4,20 @@ use mathlib.Core.Path.{_≡_}
 use mathlib.Core.Bool.{Bool, true}
 use mathlib.Core.List.{List, [], _∷_, map}
 use lib.ListN.{length}
+use Rattle.command.specs.Reply.{complete}
 use Rattle.board.specs.declared.Board.{Board}
 use Rattle.board.specs.Ranges.{inRange}
 use Rattle.board.specs.Board.{atRest}
-use Rattle.promises.specs.Machine.{State, Machine}
-use Rattle.promises.specs.Words.{Word, stage, closing, replyAt, isClosed}
-use Rattle.promises.specs.Words.Closing.{reply}
+use Rattle.board.specs.State.{State}
+use Rattle.promises.specs.Machine.{Machine}
+use Rattle.promises.specs.TakenWords.{Word, stage, closing, replyAt, isClosed}
+use Rattle.promises.specs.TakenWords.Closing.{reply}
 use Rattle.promises.specs.Environment.{Found, Trail, trail, begun, handed, underWay, AllFit, AllNops}
 use Rattle.promises.specs.History.{Lent, Call, after, finds, made, Idle, nops}
 
 -- the reply that the rules give next: for the last word, or on a fresh board "next reply 0x0FFFF"
 abbrev pub nextReply : List Word → ℕ
-nextReply [] = 0x0FFFF
+nextReply [] = complete
 nextReply (o ∷ os) = replyAt (stage o)
 
 abbrev pub lastClosed : List Word → Bool

@@ -1,0 +1,120 @@
+-- Demand 3: a NOP does the same on two boards that agree in all but the status.
+use Prim.Native.Nat.{ℕ}
+use mathlib.Core.Path.{_≡_, refl, sym, ap, _∙_, subst}
+use mathlib.Core.Bool.{Bool, true, false, cond}
+use mathlib.Core.List.{List}
+use lib.ListN.{set}
+use Rattle.command.specs.declared.Command.{Command}
+use Rattle.command.specs.declared.Command.the-variants.{Unknown, Nop, Load, Store, Show, Change}
+use Rattle.command.specs.declared.Source.the-variants as source
+use Rattle.board.specs.declared.Board.{Board}
+use Rattle.board.specs.declared.Status.{Status}
+use Rattle.board.specs.declared.Place.{Place}
+use Rattle.board.specs.Setters.{withStatus, withRegisters, withControl}
+use Rattle.board.specs.State.{State, stateOf, standingOf}
+use Rattle.registers.specs.Registers.{controlIndex, controlListed, controlFetched, controlWritten, debugWritten, boardAfter}
+use Rattle.registers.specs.ChangeLaws.{each-change}
+use Rattle.plan.specs.declared.Plan.{Plan}
+use Rattle.plan.specs.declared.Plan.the-variants.{Hold, Reject, Release, Work}
+use Rattle.step.specs.Step.{left, planFor, stepped}
+use Rattle.sound.specs.Sound.{PhaseWithin}
+use Rattle.promises.specs.Demand3.{SameButStatus}
+use Rattle.promises.specs.IgnoresStatusLaws.{IgnoresStatus, PlanIgnoresStatus, nop-ignores-status, nop-however-judged}
+
+-- the state with another status
+abbrev besides : State → Status → State
+besides x s = stateOf (withStatus (x .board) s) (x .place) (x .memory)
+
+module _ (x : State) (s : Status) where
+  same-place-worked : (c : Command) (address value : ℕ) → IgnoresStatus c → left (Work c address value) (besides x s) .place ≡ left (Work c address value) x .place
+  unfolding controlFetched
+  same-place-worked Unknown address value h = refl
+  same-place-worked Nop address value h = refl
+  same-place-worked (Load z base) address value h = refl
+  same-place-worked (Store z base) address value h = refl
+  same-place-worked (Show (source.General n)) address value h = refl
+  same-place-worked (Show source.Control) address value h = refl
+  same-place-worked (Show source.Csr) address value h = absurd (h refl)
+  same-place-worked (Change target) address value h = refl
+
+  same-place : (plan : Plan) → PlanIgnoresStatus plan → left plan (besides x s) .place ≡ left plan x .place
+  same-place (Hold phase) h = refl
+  same-place Reject h = refl
+  same-place (Release low) h = refl
+  same-place (Work c address value) h = same-place-worked c address value h
+
+  same-memory : (plan : Plan) → left plan (besides x s) .memory ≡ left plan x .memory
+  same-memory (Hold phase) = refl
+  same-memory Reject = refl
+  same-memory (Release low) = refl
+  same-memory (Work c address value) = refl
+
+module _ (b : Board) (s : Status) where
+  same : SameButStatus (withStatus b s) b
+  same = record { setting = refl; registers = refl; debug = refl }
+
+  same-control : (n v : ℕ) → SameButStatus (controlWritten (withStatus b s) n v) (controlWritten b n v)
+  unfolding controlWritten
+  same-control n v = by (controlListed n)
+    where
+      stored : Board → Board
+      stored x = withRegisters x (withControl (b .registers) (set (b .registers .control) (controlIndex n) v))
+
+      by : (t : Bool) → SameButStatus (cond t (stored (withStatus b s)) (withStatus b s)) (cond t (stored b) b)
+      by true = record { setting = refl; registers = refl; debug = refl }
+      by false = same
+
+  -- whatever work is done, it leaves the boards alike
+  same-work : (c : Command) (address value : ℕ) → SameButStatus (boardAfter c (withStatus b s) address value) (boardAfter c b address value)
+  unfolding debugWritten
+  same-work c address value =
+      each-change (λ change. SameButStatus (change (withStatus b s)) (change b)) address value
+      (record {
+        none = same;
+        csrRead = record { setting = refl; registers = refl; debug = refl };
+        general = λ n. record { setting = refl; registers = refl; debug = refl };
+        control = same-control address value;
+        debug = λ r. record { setting = refl; registers = refl; debug = refl };
+        go = record { setting = refl; registers = refl; debug = refl };
+        syncPc = record { setting = refl; registers = refl; debug = refl };
+      })
+      c
+
+same-board : (x : State) (s : Status) (plan : Plan) → SameButStatus (left plan (besides x s) .board) (left plan x .board)
+same-board x s (Hold phase) = same (x .board) s
+same-board x s Reject = same (x .board) s
+same-board x s (Release low) = same (x .board) s
+same-board x s (Work c address value) = same-work (x .board) s c address value
+
+-- a board that agrees with another in all but the status is that other with its own status
+is-with-status : (a b : Board) → SameButStatus a b → a ≡ withStatus b (a .status)
+is-with-status a b h = λ i. record { w = h .setting i; status = a .status; registers = h .registers i; debug = h .debug i }
+
+-- what a NOP does on such boards
+pub record SameNop (a : Board) (s : State) : Type 0 where
+  pub place : stepped (stateOf a (s .place) (s .memory)) 0 .place ≡ stepped s 0 .place
+  pub board : SameButStatus (stepped (stateOf a (s .place) (s .memory)) 0 .board) (stepped s 0 .board)
+  pub memory : stepped (stateOf a (s .place) (s .memory)) 0 .memory ≡ stepped s 0 .memory
+
+module _ (w : ℕ) (x : State) (setting : x .board .w ≡ w) (fits : PhaseWithin w (x .place .phase)) where
+  abbrev plan : Plan
+  plan = planFor (x .board) (x .place) 0
+
+  same-plan : (s : Status) → planFor (withStatus (x .board) s) (x .place) 0 ≡ plan
+  unfolding planFor
+  same-plan s = nop-however-judged (x .board .w) (x .place .phase) (standingOf (withStatus (x .board) s) (x .place)) (standingOf (x .board) (x .place))
+
+  plan-ignores-status : PlanIgnoresStatus plan
+  unfolding planFor
+  plan-ignores-status = rw setting (nop-ignores-status w (x .place .phase) (standingOf (x .board) (x .place)) fits)
+
+  same-nop-with : (s : Status) → SameNop (withStatus (x .board) s) x
+  unfolding stepped
+  same-nop-with s = record {
+    place = ap (λ (p : Plan). left p (besides x s) .place) (same-plan s) ∙ same-place x s plan plan-ignores-status;
+    board = rw (same-plan s) (same-board x s plan);
+    memory = ap (λ (p : Plan). left p (besides x s) .memory) (same-plan s) ∙ same-memory x s plan;
+  }
+
+  pub same-nop : (a : Board) → SameButStatus a (x .board) → SameNop a x
+  same-nop a h = subst (λ (b : Board). SameNop b x) (sym (is-with-status a (x .board) h)) (same-nop-with (a .status))
