@@ -57,10 +57,10 @@ pub record Conversed (request : Request) (start : State) (nops : ℕ) (reader : 
   pub few : packets ≤ 22
   pub fewNops : nops ≤ restBudget
 
-pub conversed : {request : Request} {start : State} {nops : ℕ} {reader : Reader} {rest s : State} {packets : ℕ} → Sound start → inRange request ≡ true
-    → rest ≡ rested restBudget start → nops ≡ restPackets start → talk reader s packets ≡ exchanged request rest
+pub conversed-as-promised : {request : Request} {start : State} {nops : ℕ} {reader : Reader} {rest s : State} {packets : ℕ}
+    → Sound start → inRange request ≡ true → rest ≡ rested restBudget start → nops ≡ restPackets start → talk reader s packets ≡ exchanged request rest
     → Conversed request start nops reader s packets
-conversed {request} {start} {nops} f h rests count talked =
+conversed-as-promised {request} {start} {nops} f h rests count talked =
     let there = restScene start in
     let whole = talked ∙ ap (exchanged request) rests ∙ exchange-from-anywhere request h f in
     record {

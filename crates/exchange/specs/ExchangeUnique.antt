@@ -22,18 +22,18 @@ endedAs t =
     (cond (eqb (t .reply) busError) (Ended BusError (t .packets))
     (cond (eqb (t .reply) illegal) (Ended Illegal (t .packets)) (Ended (Value (t .value)) (t .packets))))
 
-back : (outcome : Outcome) (n : ℕ) → endedAs (toldExchange (Ended outcome n)) ≡ Ended outcome n
-back (Value value) n = refl
-back Complete n = refl
-back BusError n = refl
-back Illegal n = refl
+ended-back : (outcome : Outcome) (n : ℕ) → endedAs (toldExchange (Ended outcome n)) ≡ Ended outcome n
+ended-back (Value value) n = refl
+ended-back Complete n = refl
+ended-back BusError n = refl
+ended-back Illegal n = refl
 
 abbrev refusalNumber : ExchangeTold → ℕ
 refusalNumber t = t .refusal .number
 
 -- an answer is known by what it says on paper
 pub told-exchange-unique : (x y : Exchanged) → toldExchange x ≡ toldExchange y → x ≡ y
-told-exchange-unique (Ended o m) (Ended q n) e = sym (back o m) ∙ ap endedAs e ∙ back q n
+told-exchange-unique (Ended o m) (Ended q n) e = sym (ended-back o m) ∙ ap endedAs e ∙ ended-back q n
 told-exchange-unique (Ended o m) (Refused h) e = absurd (number-is-not-zero h (sym (ap refusalNumber e)))
 told-exchange-unique (Refused g) (Ended q n) e = absurd (number-is-not-zero g (ap refusalNumber e))
 told-exchange-unique (Refused g) (Refused h) e = ap Refused (same-number-same-ground g h (ap refusalNumber e))

@@ -34,20 +34,20 @@ so-after-all {t = true} e h = sym e
 so-after-all {t = false} e h = cc
 
 -- ---- the buffer
-zeros : (n i : ℕ) → _≡_ {A = ℕ} (getD (replicate n 0) i 0) 0
-zeros zero i = refl
-zeros (suc n) zero = refl
-zeros (suc n) (suc i) = zeros n i
+zeros-are-zero : (n i : ℕ) → _≡_ {A = ℕ} (getD (replicate n 0) i 0) 0
+zeros-are-zero zero i = refl
+zeros-are-zero (suc n) zero = refl
+zeros-are-zero (suc n) (suc i) = zeros-are-zero n i
 
 zeros-from : (k n i : ℕ) → _≡_ {A = ℕ} (getD (drop k (replicate n 0)) i 0) 0
-zeros-from zero n i = zeros n i
+zeros-from zero n i = zeros-are-zero n i
 zeros-from (suc k) zero i = refl
 zeros-from (suc k) (suc n) i = zeros-from k n i
 
-padded : (xs ys : List ℕ) (i : ℕ) → ((j : ℕ) → getD ys j 0 ≡ 0) → getD (xs ++ ys) i 0 ≡ getD xs i 0
-padded [] ys i h = h i
-padded (x ∷ xs) ys zero h = refl
-padded (x ∷ xs) ys (suc i) h = padded xs ys i h
+padding-adds-zeros : (xs ys : List ℕ) (i : ℕ) → ((j : ℕ) → getD ys j 0 ≡ 0) → getD (xs ++ ys) i 0 ≡ getD xs i 0
+padding-adds-zeros [] ys i h = h i
+padding-adds-zeros (x ∷ xs) ys zero h = refl
+padding-adds-zeros (x ∷ xs) ys (suc i) h = padding-adds-zeros xs ys i h
 
 -- five words of zero, built into, hold the request's words and then NOPs
 pub built-then-nops : {request : Request} {r : Built} {after : List ℕ} → BuildingMeets request (replicate 5 0) r after → inRange request ≡ true
@@ -55,4 +55,4 @@ pub built-then-nops : {request : Request} {r : Built} {after : List ℕ} → Bui
 built-then-nops {request} m h i =
     let room = le-leb (length (builtWords request)) 5 (word-count-bound request) in
     ap (λ (l : List ℕ). getD l i 0) (m .buffer)
-    ∙ rw (h, room) (padded (builtWords request) (drop (length (builtWords request)) (replicate 5 0)) i (zeros-from (length (builtWords request)) 5))
+    ∙ rw (h, room) (padding-adds-zeros (builtWords request) (drop (length (builtWords request)) (replicate 5 0)) i (zeros-from (length (builtWords request)) 5))

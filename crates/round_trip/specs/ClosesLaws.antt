@@ -69,35 +69,36 @@ Fits (OfSize Word) (TwoWords v) = ⊥
 Fits (OfSize Long) (TwoWords v) = v ≤ 0xFFFFFFFF
 
 -- the work is done
-abbrev pub worked : Ending → Scene → State
-worked e s = stateOf (s .board) (record { phase = phaseAfter e; chain = s .chain; pointer = s .pointer; next = firstReply e }) (s .memory)
+abbrev pub endedIn : Ending → Scene → State
+endedIn e s = stateOf (s .board) (record { phase = phaseAfter e; chain = s .chain; pointer = s .pointer; next = firstReply e }) (s .memory)
 
-last : (kind : ResultKind) (reader : Reader) (s : Scene) (reply : ℕ) (outcome : Outcome) → done reader ≡ false → afterReply kind reader reply ≡ Closed outcome
+last-closes : (kind : ResultKind) (reader : Reader) (s : Scene) (reply : ℕ) (outcome : Outcome)
+    → done reader ≡ false → afterReply kind reader reply ≡ Closed outcome
     → Closes kind (nops 1) reader (resting s reply) outcome (resting s complete)
 unfolding replies ran replyNow
-last kind reader s reply outcome more closed = record { answer = closed; all = rw more; state = nop-at-rest s reply }
+last-closes kind reader s reply outcome more closed = record { answer = closed; all = rw more; state = nop-at-rest s reply }
 
-low-leaves : (s : Scene) (v : ℕ) → stepped (worked (TwoWords v) s) 0 ≡ resting s (v % 65536)
+low-leaves : (s : Scene) (v : ℕ) → stepped (endedIn (TwoWords v) s) 0 ≡ resting s (v % 65536)
 unfolding stepped planFor
 low-leaves s v = refl
 
-pub told : (kind : ResultKind) (e : Ending) (s : Scene) → Fits kind e
-    → Closes kind (nops (closingReplies kind (outcomeOf e))) First (worked e s) (outcomeOf e) (resting s complete)
+pub ending-closes : (kind : ResultKind) (e : Ending) (s : Scene) → Fits kind e
+    → Closes kind (nops (closingReplies kind (outcomeOf e))) First (endedIn e s) (outcomeOf e) (resting s complete)
 unfolding replyNow
-told NoResult Completed s f = last NoResult First s complete Complete refl refl
-told NoResult Failed s f = last NoResult First s busError BusError refl refl
-told NoResult (OneWord v) s f = absurd f
-told NoResult (TwoWords v) s f = absurd f
-told (OfSize size) Completed s f = absurd f
-told (OfSize size) Failed s f = last (OfSize size) First s busError BusError refl refl
-told (OfSize Byte) (OneWord v) s f = last (OfSize Byte) First s v (Value v) refl (after-byte v f)
-told (OfSize Word) (OneWord v) s f = last (OfSize Word) First s v (Value v) refl (after-word v f)
-told (OfSize Long) (OneWord v) s f = absurd f
-told (OfSize Byte) (TwoWords v) s f = absurd f
-told (OfSize Word) (TwoWords v) s f = absurd f
-told (OfSize Long) (TwoWords v) s f =
-    closes-on (OfSize Long) 0 (nops 1) First (worked (TwoWords v) s) (Value v) (resting s complete) refl
-    (rw (after-upper v f, low-leaves s v) (last (OfSize Long) (Second (v / 65536)) s (v % 65536) (Value v) refl (after-lower (OfSize Long) v)))
+ending-closes NoResult Completed s f = last-closes NoResult First s complete Complete refl refl
+ending-closes NoResult Failed s f = last-closes NoResult First s busError BusError refl refl
+ending-closes NoResult (OneWord v) s f = absurd f
+ending-closes NoResult (TwoWords v) s f = absurd f
+ending-closes (OfSize size) Completed s f = absurd f
+ending-closes (OfSize size) Failed s f = last-closes (OfSize size) First s busError BusError refl refl
+ending-closes (OfSize Byte) (OneWord v) s f = last-closes (OfSize Byte) First s v (Value v) refl (after-byte v f)
+ending-closes (OfSize Word) (OneWord v) s f = last-closes (OfSize Word) First s v (Value v) refl (after-word v f)
+ending-closes (OfSize Long) (OneWord v) s f = absurd f
+ending-closes (OfSize Byte) (TwoWords v) s f = absurd f
+ending-closes (OfSize Word) (TwoWords v) s f = absurd f
+ending-closes (OfSize Long) (TwoWords v) s f =
+    closes-on (OfSize Long) 0 (nops 1) First (endedIn (TwoWords v) s) (Value v) (resting s complete) refl
+    (rw (after-upper v f, low-leaves s v) (last-closes (OfSize Long) (Second (v / 65536)) s (v % 65536) (Value v) refl (after-lower (OfSize Long) v)))
 
 -- ---- the words before them
 -- operand words taken one after the other
@@ -106,15 +107,15 @@ taken t [] = t
 taken t (word ∷ words) = taken (withOperand t word) words
 
 module _ (kind : ResultKind) (c : Command) (s : State) (outcome : Outcome) (final : State) where
-  pub waited : (k n address value : ℕ) → Closes kind (nops n) First (left (Work c address value) s) outcome final
+  pub waits-close : (k n address value : ℕ) → Closes kind (nops n) First (left (Work c address value) s) outcome final
       → Closes kind (nops (k + n)) First (left (workAfter k c address value) s) outcome final
   unfolding replyNow
-  waited zero n address value h = let none : 0 + n ≡ n = omega arith in rw (none, waits-none c address value) h
-  waited (suc k) n address value h =
+  waits-close zero n address value h = let none : 0 + n ≡ n = omega arith in rw (none, waits-none c address value) h
+  waits-close (suc k) n address value h =
       let more : suc k + n ≡ suc (k + n) = omega arith in
       rw (more, waits-more k c address value)
       (closes-on kind 0 (nops (k + n)) First (under c (Waiting c (suc k) address value) s) outcome final refl
-      (rw (wait-taken k c address value s 0) (waited k n address value h)))
+      (rw (wait-taken k c address value s 0) (waits-close k n address value h)))
 
   pub operands-taken : (words further : List ℕ) (t : Operands) → Clear words
       → Closes kind further First (left (collected (s .board .w) 0 c (taken t words)) s) outcome final

@@ -25,7 +25,7 @@ use Rattle.pod_laws.specs.NotYetLaws.{not-yet-until}
 use Rattle.round_trip.specs.Meaning.{Scene, meaning}
 use Rattle.round_trip.specs.RoundTrip.{nops, resting, legalThere, legalLeaves, secondWord, illegalLeaves, closingReplies, nopsThere, wordsThere, Trip}
 use Rattle.round_trip.specs.PacketTakenLaws.{due-none, command-taken, illegal-taken}
-use Rattle.round_trip.specs.ClosesLaws.{Closes, told, taken, waited, operands-taken}
+use Rattle.round_trip.specs.ClosesLaws.{Closes, ending-closes, taken, waits-close, operands-taken}
 use Rattle.round_trip.specs.MeantWorkLaws.{Sized, workEnding, workScene}
 use Rattle.round_trip.specs.MeaningLaws.{legal-is-known, addressSent, valueSent, work-is-meant}
 
@@ -45,7 +45,7 @@ module _ (request : Request) (s : Scene) (next : ℕ) (h : inRange request ≡ t
       let o = meaning request s .outcome in
       subst (λ (x : Scene). Closes k (nops (closingReplies k o)) First after o (resting x complete)) (m .leaves)
       (subst (λ (x : Outcome). Closes k (nops (closingReplies k x)) First after x (resting there complete)) (m .outcome)
-      (told k (workEnding c (addressSent request) s) there (m .fits z)))
+      (ending-closes k (workEnding c (addressSent request) s) there (m .fits z)))
 
   -- the words after the command word
   pub legal-closes : Closes (kindOf request) (operands request ++ nops (nopsThere request s)) First (stepped (resting s next) (commandWord request))
@@ -60,7 +60,7 @@ module _ (request : Request) (s : Scene) (next : ℕ) (h : inRange request ≡ t
       rw (command-taken c (commandWord request) next s (decoded-as-meant request h) l, ← operand-count request (legal-is-known request s h l))
       (operands-taken k c (resting s next) o final (operands request) (nops (nopsThere request s)) noOperands (operands-clear request h)
       (rw (due-none w c (taken noOperands (operands request)))
-      (waited k c (resting s next) o final (waitsOf w c) (closingReplies k o) (addressSent request) (valueSent request) told-as-meant)))
+      (waits-close k c (resting s next) o final (waitsOf w c) (closingReplies k o) (addressSent request) (valueSent request) told-as-meant)))
 
 -- ---- illegal
 pub illegal-closes : (request : Request) (s : Scene) (next : ℕ) → legalThere request s ≡ false

@@ -27,9 +27,8 @@ use Rattle.readings.specs.ReaderLaws.{done-uses-none}
 use Rattle.pod_laws.specs.MeantCommand.{commandOf}
 use Rattle.pod_laws.specs.RequestCountLaws.{word-count-bound}
 use Rattle.round_trip.specs.Meaning.{Scene, meaning}
-use Rattle.round_trip.specs.RoundTrip.{nops, resting, sceneOf, legalThere, outcomeThere, legalLeaves, secondWord, illegalLeaves, stateThere}
-use Rattle.round_trip.specs.RoundTrip.{closingReplies}
-use Rattle.round_trip.specs.RoundTrip.{nopsThere, packetsThere}
+use Rattle.round_trip.specs.RoundTrip.{nops, resting, sceneOf, legalThere, outcomeThere, legalLeaves, secondWord, illegalLeaves}
+use Rattle.round_trip.specs.RoundTrip.{stateThere, closingReplies, nopsThere, packetsThere}
 use Rattle.round_trip.specs.BroughtToRest.{rested, restBudget, restScene}
 use Rattle.round_trip.specs.TalkMirror.{Talk, talk, talked, talkBudget, exchanged}
 use Rattle.round_trip.specs.ClosesLaws.{Closes}

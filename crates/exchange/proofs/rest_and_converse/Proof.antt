@@ -1,6 +1,6 @@
 use mathlib.Core.Path.{_∙_}
 use native.Mathlib.Omega.{arith}
-use Rattle.exchange.specs.ExchangeLaws.{rested-is-at-rest, conversed}
+use Rattle.exchange.specs.ExchangeLaws.{rested-is-at-rest, conversed-as-promised}
 use borrow.Author.Needs.{needs}
 use Rattle.exchange.proofs.rest_and_converse.Statement.{statement}
 use Rattle.exchange.proofs.rest_and_converse.Tie as tie
@@ -18,14 +18,14 @@ cast-answer-of : tie.Need-cast-answer-of
 cast-answer-of c =
     let from = c .before .before .before .before .before .before .before .before .before .before .before .before .before .before in
     let rest = c .before .before .before .before .before .before .before .before .before .before .before .bring-to-rest .ensures in
-    let met = conversed (from .pre .0) (from .pre .1) (rest .0) (rest .1) (c .before .before .before .before .before .converse .ensures) in
+    let met = conversed-as-promised (from .pre .0) (from .pre .1) (rest .0) (rest .1) (c .before .before .before .before .before .converse .ensures) in
     omega (arith, met .few)
 
 add-answer-of : tie.Need-add-answer-of
 add-answer-of c =
     let from = c .before .before .before .before .before .before .before .before .before .before .before .before .before .before .before in
     let rest = c .before .before .before .before .before .before .before .before .before .before .before .before .bring-to-rest .ensures in
-    let met = conversed (from .pre .0) (from .pre .1) (rest .0) (rest .1) (c .before .before .before .before .before .before .converse .ensures) in
+    let met = conversed-as-promised (from .pre .0) (from .pre .1) (rest .0) (rest .1) (c .before .before .before .before .before .before .converse .ensures) in
     omega (arith, met .few, met .fewNops)
 
 answer-of-requires : tie.Need-answer-of-requires
@@ -38,7 +38,7 @@ returns : tie.Need-returns
 returns c =
     let from = c .before .before .before .before .before .before .before .before .before .before .before .before .before .before .before .before in
     let rest = c .before .before .before .before .before .before .before .before .before .before .before .before .before .bring-to-rest .ensures in
-    let met = conversed (from .pre .0) (from .pre .1) (rest .0) (rest .1) (c .before .before .before .before .before .before .before .converse .ensures) in
+    let met = conversed-as-promised (from .pre .0) (from .pre .1) (rest .0) (rest .1) (c .before .before .before .before .before .before .before .converse .ensures) in
     (c .answer-of .ensures ∙ met .answer, met .state)
 
 pub rest-and-converse-spec : {M : Type 1} → statement M
