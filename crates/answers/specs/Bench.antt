@@ -5,7 +5,7 @@ use mathlib.Core.List.{List, [], _∷_, _++_}
 use lib.Dec.{leb}
 use lib.ListN.{take, drop}
 use lib.Seq.{sets}
-use Rattle.words.specs.Numbers.{byteAt}
+use Rattle.numbers.specs.Numbers.{byteAt}
 use Rattle.board.specs.declared.Board.{Board}
 use Rattle.board.specs.declared.Place.{Place}
 use Rattle.board.specs.Board.{freshBoard, freshPlace, makingVerdict}
@@ -13,8 +13,8 @@ use Rattle.port.specs.Packets.{packetVerdict, boardNext, placeNext, memoryNext,
 use Rattle.trigger.specs.declared.Event.{Event}
 use Rattle.trigger.specs.declared.Bus.the-variants.{Idle, Carries}
 use Rattle.bus.specs.Events.{boardAfterEvent, boardAfterBreakpoint}
-use Rattle.lines.specs.declared.BoardLine.{BoardLine}
-use Rattle.lines.specs.declared.BoardLine.the-variants.{Nothing, Make, Memory, Bytes, Packet, Event as EventLine, EventWithAccess, Breakpoint, Peek, State, Unclear}
+use Rattle.board_lines.specs.declared.BoardLine.{BoardLine}
+use Rattle.board_lines.specs.declared.BoardLine.the-variants.{Nothing, Make, Memory, Bytes, Packet, Event as EventLine, EventWithAccess, Breakpoint, Peek, State, Unclear}
 use Rattle.answers.specs.declared.Bench.{Bench}
 
 -- "`event PC` or `event PC ADDRESS ATTRIBUTE DATA`"

@@ -9,7 +9,7 @@ use borrow.Author.Tests.{leb-true, leb-false, le-leb, lt-leb}
 use lib.Dec.{leb}
 use lib.ListN.{length, set, take, drop, drop-of-length-le}
 use lib.Seq.{take-all, sets}
-use Rattle.words.specs.Numbers.{byteAt}
+use Rattle.numbers.specs.Numbers.{byteAt}
 use Rattle.answers.specs.Bench.{listed, fits}
 use Rattle.grounds.specs.declared.Ground.{Ground}
 use Rattle.grounds.specs.declared.Ground.the-variants.{WaitTooLarge}

@@ -1,8 +1,8 @@
 // The bench around the board: its lines answered, as the desk's language has them for stand_in and talk.
 use board::Board;
 use board::Place;
+use board_lines::BoardLine;
 use grounds::Verdict;
-use lines::BoardLine;
 use text::request::put_refusal;
 use text::request::put_unclear;
 use trigger::Access;
@@ -12,12 +12,12 @@ ghost use Prim.Native.Nat.{_+_, _*_, min};
 ghost use mathlib.Core.Path.{_≡_};
 ghost use lib.ListN.{set};
 ghost use lib.Seq.{sets};
-ghost use Rattle.words.specs.Numbers.{byteAt};
+ghost use Rattle.numbers.specs.Numbers.{byteAt};
 ghost use Rattle.board.specs.Board.{freshBoard, freshPlace, makingVerdict};
 ghost use Rattle.port.specs.Packets.{packetVerdict, boardNext, placeNext, unless};
 ghost use Rattle.bus.specs.Events.{boardAfterEvent, boardAfterBreakpoint};
 ghost use Rattle.answers.specs.Bench.{access, benchOf, benchLeft, zeros, bytesFrom, fits, writtenBy, lentWritten, memoryLeft};
-ghost use Rattle.lines.specs.declared.BoardLine.the-variants.{Packet, Bytes};
+ghost use Rattle.board_lines.specs.declared.BoardLine.the-variants.{Packet, Bytes};
 
 // The board, the place, and how many bytes of memory are lent.
 pub struct Bench {
@@ -129,7 +129,7 @@ fn byte_after(line: &[u8], start: usize, i: usize) -> u32
     if (line.len() - start) / 2 < i {
         return 0;
     }
-    words::number::byte_at(line, start + 2 * i)
+    numbers::byte_at(line, start + 2 * i)
 }
 
 fn put_one(line: &[u8], start: usize, memory: &mut [u8], to: usize, i: usize)

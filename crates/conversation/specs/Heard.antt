@@ -9,9 +9,9 @@ use Rattle.requests.specs.declared.Request.{Request}
 use Rattle.trip.specs.Exchange.{stateThere}
 use Rattle.exchange.specs.Exchange.{exchangeVerdict}
 use Rattle.exchange.specs.Promise.{restScene}
-use Rattle.lines.specs.declared.TalkLine.the-variants.{Board as BoardAsked, Ask}
-use Rattle.lines.specs.Board.{boardLine}
-use Rattle.lines.specs.Talk.{eitherLine, talkLine}
+use Rattle.talk_lines.specs.declared.TalkLine.the-variants.{Board as BoardAsked, Ask}
+use Rattle.board_lines.specs.BoardLines.{boardLine}
+use Rattle.talk_lines.specs.TalkLines.{eitherLine, talkLine}
 use Rattle.answers.specs.declared.Bench.{Bench}
 use Rattle.answers.specs.Bench.{benchOf, benchLeft, memoryLeft}
 use Rattle.conversation.specs.declared.Language.{Language}

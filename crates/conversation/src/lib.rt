@@ -1,7 +1,7 @@
 // A conversation: a line answered in one of the desk's languages, and line after line to the end of the input.
 ghost use mathlib.Core.Path.{_≡_};
 ghost use Rattle.answers.specs.Bench.{benchOf};
-ghost use Rattle.lines.specs.declared.TalkLine.the-variants.{Ask};
+ghost use Rattle.talk_lines.specs.declared.TalkLine.the-variants.{Ask};
 ghost use Rattle.conversation.specs.declared.Heard.the-variants.{OfBench};
 ghost use Rattle.conversation.specs.Heard.{boardAsked, placeAsked, memoryAsked, lentAsked, heard, benchAfter, memoryAfter};
 use answers::Answered;
@@ -9,8 +9,8 @@ use answers::Bench;
 use console::Input;
 use console::Unread;
 use exchange::Exchanged;
-use lines::TalkLine;
 use requests::Request;
+use talk_lines::TalkLine;
 use text::request::put_exchange;
 use text::request::put_refusal;
 
@@ -67,9 +67,9 @@ fn hear(language: Language, line: &[u8]) -> Heard
     ensures { λ r. ⌜ r ≡ heard language (now (line .entry)) ⌝ }
 {
     match language {
-        Language::StandIn => Heard::OfBench(TalkLine::Board(lines::read_stand_in_line(line))),
-        Language::Talk => Heard::OfBench(lines::read_talk_line(line)),
-        Language::Both => Heard::OfBench(lines::read_either_line(line)),
+        Language::StandIn => Heard::OfBench(TalkLine::Board(board_lines::read_line(line))),
+        Language::Talk => Heard::OfBench(talk_lines::read_talk_line(line)),
+        Language::Both => Heard::OfBench(talk_lines::read_either_line(line)),
         Language::Pod => Heard::OfPod,
     }
 }

@@ -1,7 +1,7 @@
 use Prim.Native.Nat.{_+_, _*_}
 use mathlib.Core.Path.{sym}
 use native.Mathlib.Omega.{arith}
-use Rattle.words.specs.NumberLaws.{byte-out}
+use Rattle.numbers.specs.NumberLaws.{byte-out}
 use borrow.Author.Needs.{needs}
 use Rattle.answers.proofs.byte_after.Statement.{statement}
 use Rattle.answers.proofs.byte_after.Tie as tie

@@ -3,7 +3,7 @@ use lib.ListN.{length}
 use lib.Seq.{sets}
 use mathlib.Core.Path.{_≡_, refl, _∙_}
 use native.Mathlib.Omega.{arith}
-use Rattle.words.specs.Numbers.{byteAt}
+use Rattle.numbers.specs.Numbers.{byteAt}
 use Rattle.answers.specs.Bench.{bytesFrom}
 use Rattle.answers.specs.BenchLaws.{put-next}
 use borrow.Author.Needs.{needs}

@@ -2,7 +2,7 @@ use Prim.Native.Nat.{_+_, _*_, _%_}
 use mathlib.Core.Path.{_≡_, sym}
 use native.Mathlib.Omega.{arith}
 use lib.Seq.{set-out}
-use Rattle.words.specs.Numbers.{byteAt}
+use Rattle.numbers.specs.Numbers.{byteAt}
 use Rattle.answers.specs.BenchLaws.{byte-small}
 use borrow.Author.Needs.{needs}
 use Rattle.answers.proofs.put_one.Statement.{statement}
