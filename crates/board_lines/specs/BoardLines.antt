@@ -13,7 +13,8 @@ use Rattle.numbers.specs.declared.Numbers.the-variants.{Zero, One, Two, Three, 
 use Rattle.words.specs.LineWords.{ascii, kindOf, words, same}
 use Rattle.numbers.specs.Numbers.{allDigits, numeral, numbers}
 use Rattle.board_lines.specs.declared.BoardLine.{BoardLine}
-use Rattle.board_lines.specs.declared.BoardLine.the-variants.{Nothing, Make, Memory, Bytes, Packet, Event, EventWithAccess, Breakpoint, Peek, State, Unclear}
+use Rattle.board_lines.specs.declared.BoardLine.the-variants.{Nothing, Make, Memory, Bytes, Packet, Event, EventWithAccess}
+use Rattle.board_lines.specs.declared.BoardLine.the-variants.{Breakpoint, Peek, State, Unclear}
 use Rattle.words.specs.NameTable.{row, found}
 
 -- "N up to 10010"
@@ -34,7 +35,12 @@ boardOfNone name = found Unclear name (row (ascii "breakpoint") Breakpoint ∷ r
 
 -- `make W`, `memory N`, `packet X`, `event PC`
 unfoldable pub boardOfOne : List ℕ → ℕ → BoardLine
-boardOfOne name n = found Unclear name (row (ascii "make") (Make n) ∷ row (ascii "memory") (memoryLine n) ∷ row (ascii "packet") (Packet n) ∷ row (ascii "event") (Event n) ∷ [])
+boardOfOne name n =
+    found Unclear name (row (ascii "make") (Make n)
+    ∷ row (ascii "memory") (memoryLine n)
+    ∷ row (ascii "packet") (Packet n)
+    ∷ row (ascii "event") (Event n)
+    ∷ [])
 
 -- `peek A N`
 unfoldable pub boardOfTwo : List ℕ → ℕ → ℕ → BoardLine

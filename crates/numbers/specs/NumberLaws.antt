@@ -41,7 +41,8 @@ value-grows : (before : ℕ) (rest : List ℕ) → before ≤ valueFrom before r
 value-grows before [] = omega arith
 value-grows before (byte ∷ rest) = omega (arith, value-grows (before * 16 + digit byte) rest)
 
-pub number-goes-on : (word : List ℕ) (i before : ℕ) → i < length word → digit (getD word i 0) ≤ 15 → numeralFrom before (drop i word) ≡ numeralFrom (before * 16 + digit (getD word i 0)) (drop (i + 1) word)
+pub number-goes-on : (word : List ℕ) (i before : ℕ) → i < length word → digit (getD word i 0) ≤ 15
+    → numeralFrom before (drop i word) ≡ numeralFrom (before * 16 + digit (getD word i 0)) (drop (i + 1) word)
 number-goes-on word i before h e = rw (from-here word i h, le-leb _ _ e)
 
 pub number-bad : (word : List ℕ) (i before : ℕ) → i < length word → 15 < digit (getD word i 0) → numeralFrom before (drop i word) ≡ NoNumber
@@ -96,5 +97,6 @@ numeral-none word e = by-test (isNumeral word) e
     by-test true e = cc
     by-test false e = refl
 
-pub gather-goes-on : (before after : Numbers) (n : Numeral) (word : List ℕ) (words : List (List ℕ)) → n ≡ numeral word → after ≡ more before n → gathered before (word ∷ words) ≡ gathered after words
+pub gather-goes-on : (before after : Numbers) (n : Numeral) (word : List ℕ) (words : List (List ℕ)) → n ≡ numeral word → after ≡ more before n
+    → gathered before (word ∷ words) ≡ gathered after words
 gather-goes-on before after n word words p q = ap (λ (x : Numbers). gathered x words) (sym (q ∙ ap (more before) p))

@@ -30,7 +30,9 @@ lower-digit byte = by-test (leb 65 byte && leb byte 70) refl
         let both = both-hold (leb 65 byte) (leb byte 70) e in
         let low : 65 ≤ byte = leb-true 65 byte (both .0) in
         let high : byte ≤ 70 = leb-true byte 70 (both .1) in
-        rw (e, above 48 57 byte (omega arith), above 48 57 (byte + 32) (omega arith), above 65 70 (byte + 32) (omega arith), within 97 102 (byte + 32) (omega arith) (omega arith)) (omega arith)
+        let no-digit = above 48 57 (byte + 32) (omega arith) in
+        let no-capital = above 65 70 (byte + 32) (omega arith) in
+        rw (e, above 48 57 byte (omega arith), no-digit, no-capital, within 97 102 (byte + 32) (omega arith) (omega arith)) (omega arith)
 
 lower-digits : (word : List ℕ) → allDigits (map lower word) ≡ allDigits word
 lower-digits [] = refl

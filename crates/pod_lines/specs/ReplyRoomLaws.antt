@@ -41,7 +41,8 @@ after-shorter : (ws replies : List (List ℕ)) → afterColon ws ≡ some replie
 after-shorter [] replies e = let z : _≡_ {A = ℕ} 0 1 = cc in omega arith
 after-shorter (w ∷ rest) replies e = by-test (after-shorter rest replies) (same w (ascii ":")) e
   where
-    by-test : (afterColon rest ≡ some replies → length (spaced replies) ≤ length (spaced rest)) → (t : Bool) → cond t (some rest) (afterColon rest) ≡ some replies → length (spaced replies) ≤ length (spaced (w ∷ rest))
+    by-test : (afterColon rest ≡ some replies → length (spaced replies) ≤ length (spaced rest)) → (t : Bool)
+        → cond t (some rest) (afterColon rest) ≡ some replies → length (spaced replies) ≤ length (spaced (w ∷ rest))
     by-test ih true e = let same-rest : rest ≡ replies = cc in rw (← same-rest) (spaced-tail w rest)
     by-test ih false e = omega (arith, ih e, spaced-tail w rest)
 
@@ -50,30 +51,37 @@ build-reads : (asked : Asked) (request : Request) (replies : List (List ℕ)) �
 build-reads (For r) request replies e = cc
 build-reads NoRequest request replies e = cc
 
-read-reads : (asked : Asked) (behind : Option (List (List ℕ))) (request : Request) (replies : List (List ℕ)) → readLine asked behind ≡ reads request replies → behind ≡ some replies
+read-reads : (asked : Asked) (behind : Option (List (List ℕ))) (request : Request) (replies : List (List ℕ)) → readLine asked behind ≡ reads request replies
+    → behind ≡ some replies
 read-reads (For r) (some words) request replies e = cc
 read-reads (For r) none request replies e = cc
 read-reads NoRequest behind request replies e = cc
 
-words-shorter : (ws : List (List ℕ)) (request : Request) (replies : List (List ℕ)) → podWords ws ≡ reads request replies → length (spaced replies) ≤ length (spaced ws)
+words-shorter : (ws : List (List ℕ)) (request : Request) (replies : List (List ℕ)) → podWords ws ≡ reads request replies
+    → length (spaced replies) ≤ length (spaced ws)
 unfolding podWords
 words-shorter [] request replies e = let z : _≡_ {A = ℕ} 0 1 = cc in omega arith
 words-shorter (name ∷ rest) request replies e = by-test (same name (ascii "build")) (same name (ascii "read")) e
   where
-    by-test : (t u : Bool) → cond t (buildLine (requestOf rest)) (cond u (readLine (requestOf (beforeColon rest)) (afterColon rest)) unclear) ≡ reads request replies → length (spaced replies) ≤ length (spaced (name ∷ rest))
+    by-test : (t u : Bool)
+        → cond t (buildLine (requestOf rest)) (cond u (readLine (requestOf (beforeColon rest)) (afterColon rest)) unclear) ≡ reads request replies
+        → length (spaced replies) ≤ length (spaced (name ∷ rest))
     by-test true u e = omega (arith, build-reads (requestOf rest) request replies e)
-    by-test false true e = omega (arith, spaced-tail name rest, after-shorter rest replies (read-reads (requestOf (beforeColon rest)) (afterColon rest) request replies e))
+    by-test false true e =
+        omega (arith, spaced-tail name rest, after-shorter rest replies (read-reads (requestOf (beforeColon rest)) (afterColon rest) request replies e))
     by-test false false e = let z : _≡_ {A = ℕ} 0 1 = cc in omega arith
 
 reading-is-short : (line : List ℕ) (request : Request) (replies : List (List ℕ)) → podMeaning line ≡ reads request replies → length (spaced replies) ≤ 4096
 unfolding podMeaning kindOf
 reading-is-short line request replies e = by-test (isSilent line) (leb (length line) 4096) refl e
   where
-    by-test : (t u : Bool) → leb (length line) 4096 ≡ u → podAt (cond t Silent (cond u Clear TooLong)) line ≡ reads request replies → length (spaced replies) ≤ 4096
+    by-test : (t u : Bool) → leb (length line) 4096 ≡ u → podAt (cond t Silent (cond u Clear TooLong)) line ≡ reads request replies
+        → length (spaced replies) ≤ 4096
     by-test true u p e = let z : _≡_ {A = ℕ} 0 1 = cc in omega arith
     by-test false true p e = omega (arith, leb-true (length line) 4096 p, ap length (words-spaced line), words-shorter (words line) request replies e)
     by-test false false p e = let z : _≡_ {A = ℕ} 0 1 = cc in omega arith
 
 -- "longer than 4,096 bytes" is unclear, so no line has more reply words than this
-pub room-enough : (line : List ℕ) (request : Request) (replies : List (List ℕ)) → podMeaning line ≡ reads request replies → allNumerals replies ≡ true → length replies ≤ 2048
+pub room-enough : (line : List ℕ) (request : Request) (replies : List (List ℕ)) → podMeaning line ≡ reads request replies → allNumerals replies ≡ true
+    → length replies ≤ 2048
 room-enough line request replies e f = omega (arith, reading-is-short line request replies e, numerals-length replies f)

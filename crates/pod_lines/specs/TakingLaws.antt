@@ -38,7 +38,8 @@ count-tells words n e = by-test (allNumerals words) e
     by-test false e = (cc, cc)
 
 -- putting on from a place
-pub put-goes-on : (buffer : List ℕ) (n : ℕ) (word : List ℕ) (words : List (List ℕ)) → sets buffer n (values (word ∷ words)) ≡ sets (set buffer n (value word)) (n + 1) (values words)
+pub put-goes-on : (buffer : List ℕ) (n : ℕ) (word : List ℕ) (words : List (List ℕ))
+    → sets buffer n (values (word ∷ words)) ≡ sets (set buffer n (value word)) (n + 1) (values words)
 put-goes-on buffer n word words = rw (add-one n)
 
 values-length : (words : List (List ℕ)) → length (values words) ≡ length words
@@ -46,7 +47,8 @@ values-length [] = refl
 values-length (word ∷ words) = ap suc (values-length words)
 
 -- all of them at the front, and the rest as it was
-pub put-all : (words : List (List ℕ)) (before : List ℕ) → length words ≤ length before → sets before 0 (values words) ≡ values words ++ drop (length words) before
+pub put-all : (words : List (List ℕ)) (before : List ℕ) → length words ≤ length before
+    → sets before 0 (values words) ≡ values words ++ drop (length words) before
 put-all words before h = rw (values-length words) at (sets-front (values words) before (omega (arith, values-length words)))
 
 -- what is known of words that are all numbers
@@ -55,7 +57,8 @@ first-numeral word words e = both-hold (isNumeral word) (allNumerals words) e
 
 -- the promise, for each way that taking goes
 module _ (words : List (List ℕ)) (before : List ℕ) (n : ℕ) where
-  pub takes-all : counted words ≡ Count n → n ≤ length before → (after : List ℕ) → after ≡ sets before 0 (values words) → TakingMeets words before (Count n) after
+  pub takes-all : counted words ≡ Count n → n ≤ length before → (after : List ℕ) → after ≡ sets before 0 (values words)
+      → TakingMeets words before (Count n) after
   takes-all e h after p =
       let l : length words ≡ n = count-tells words n e .1 in
       record { answer = rw (e, le-leb n (length before) h); buffer = p ∙ put-all words before (omega arith) ∙ rw (e, l, le-leb n (length before) h) }

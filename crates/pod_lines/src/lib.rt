@@ -44,7 +44,8 @@ pub struct Parted {
 }
 
 fn part_at_colon(line: &[u8], end: usize) -> Parted
-    ensures { λ r. ⌜ (r .numbers ≡ numbers (beforeColon (wordsAfter (now (line .entry)) end))) × (behind (now (line .entry)) (r .colon) ≡ afterColon (wordsAfter (now (line .entry)) end)) ⌝ }
+    ensures { λ r. ⌜ (r .numbers ≡ numbers (beforeColon (wordsAfter (now (line .entry)) end)))
+        × (behind (now (line .entry)) (r .colon) ≡ afterColon (wordsAfter (now (line .entry)) end)) ⌝ }
 {
     let mut before = Numbers::Zero;
     let mut at = end;
@@ -89,7 +90,9 @@ fn read_reading(asked: Asked, colon: Colon, line: &[u8], buffer: &mut [u32]) -> 
 }
 
 fn read_read(line: &[u8], end: usize, buffer: &mut [u32]) -> PodLine
-    ensures { λ r. ⌜ PodMeets (readLine (requestOf (beforeColon (wordsAfter (now (line .entry)) end))) (afterColon (wordsAfter (now (line .entry)) end))) (now (buffer .entry)) r (now (buffer .exit)) ⌝ }
+    ensures { λ r. ⌜ PodMeets
+        (readLine (requestOf (beforeColon (wordsAfter (now (line .entry)) end))) (afterColon (wordsAfter (now (line .entry)) end)))
+        (now (buffer .entry)) r (now (buffer .exit)) ⌝ }
 {
     if line.len() <= end {
         return PodLine::Unclear;

@@ -41,7 +41,9 @@ pub words-cut : (line : List ℕ) → words line ≡ take (wordLength line) line
 words-cut [] = refl
 words-cut (byte ∷ bytes) = by-test (words-cut bytes) (eqb byte 32)
   where
-    by-test : words bytes ≡ take (wordLength bytes) bytes ∷ wordsAfter bytes (wordLength bytes) → (t : Bool) → cond t ([] ∷ words bytes) (joined byte (words bytes)) ≡ take (cond t 0 (suc (wordLength bytes))) (byte ∷ bytes) ∷ wordsAfter (byte ∷ bytes) (cond t 0 (suc (wordLength bytes)))
+    by-test : words bytes ≡ take (wordLength bytes) bytes ∷ wordsAfter bytes (wordLength bytes) → (t : Bool)
+        → cond t ([] ∷ words bytes) (joined byte (words bytes))
+        ≡ take (cond t 0 (suc (wordLength bytes))) (byte ∷ bytes) ∷ wordsAfter (byte ∷ bytes) (cond t 0 (suc (wordLength bytes)))
     by-test h true = rw (lt-ltb 0 (suc (length bytes)) (omega arith))
     by-test h false = rw (h, suc-add (wordLength bytes) 1, leb·suc-suc (suc (wordLength bytes)) (length bytes))
 
@@ -60,7 +62,8 @@ pub words-spaced : (line : List ℕ) → spaced (words line) ≡ line
 words-spaced [] = refl
 words-spaced (byte ∷ bytes) = by-test (words bytes) (words-cut bytes) (words-spaced bytes) (eqb byte 32) refl
   where
-    by-test : (ws : List (List ℕ)) → ws ≡ take (wordLength bytes) bytes ∷ wordsAfter bytes (wordLength bytes) → spaced ws ≡ bytes → (t : Bool) → eqb byte 32 ≡ t → spaced (cond t ([] ∷ ws) (joined byte ws)) ≡ byte ∷ bytes
+    by-test : (ws : List (List ℕ)) → ws ≡ take (wordLength bytes) bytes ∷ wordsAfter bytes (wordLength bytes) → spaced ws ≡ bytes → (t : Bool) → eqb byte 32 ≡ t
+        → spaced (cond t ([] ∷ ws) (joined byte ws)) ≡ byte ∷ bytes
     by-test [] p q t e = cc
     by-test (w ∷ more) p q true e = cc (eqb-true byte 32 e)
     by-test (w ∷ more) p q false e = spaced-more byte w more ∙ ap (λ (bs : List ℕ). byte ∷ bs) q
@@ -73,26 +76,31 @@ after-shift line at k h = by-test (ltb (at + k) (length line)) refl
     by-test true e = rw (e, lt-ltb k (length (drop at line)) (omega (arith, length-drop at line, ltb-true (at + k) (length line) e)), drop-drop, ← add-assoc)
     by-test false e = rw (e, le-ltb k (length (drop at line)) (omega (arith, length-drop at line, ltb-false (at + k) (length line) e)))
 
-pub words-from : (line : List ℕ) (at : ℕ) → at ≤ length line → words (drop at line) ≡ take (wordLength (drop at line)) (drop at line) ∷ wordsAfter line (at + wordLength (drop at line))
+pub words-from : (line : List ℕ) (at : ℕ) → at ≤ length line
+    → words (drop at line) ≡ take (wordLength (drop at line)) (drop at line) ∷ wordsAfter line (at + wordLength (drop at line))
 words-from line at h = words-cut (drop at line) ∙ ap (λ (ws : List (List ℕ)). take (wordLength (drop at line)) (drop at line) ∷ ws) (after-shift line at _ h)
 
 -- the word that starts at a place and stops at another
-pub word-from : (line : List ℕ) (at stop : ℕ) → at ≤ length line → stop ≡ at + wordLength (drop at line) → words (drop at line) ≡ take (stop - at) (drop at line) ∷ wordsAfter line stop
+pub word-from : (line : List ℕ) (at stop : ℕ) → at ≤ length line → stop ≡ at + wordLength (drop at line)
+    → words (drop at line) ≡ take (stop - at) (drop at line) ∷ wordsAfter line stop
 word-from line at stop h e =
     let k : stop - at ≡ wordLength (drop at line) = omega arith in
     rw (k, e) (words-from line at h)
 
-pub after-word : (line : List ℕ) (end stop : ℕ) → end < length line → stop ≡ end + 1 + wordLength (drop (end + 1) line) → wordsAfter line end ≡ take (stop - (end + 1)) (drop (end + 1) line) ∷ wordsAfter line stop
+pub after-word : (line : List ℕ) (end stop : ℕ) → end < length line → stop ≡ end + 1 + wordLength (drop (end + 1) line)
+    → wordsAfter line end ≡ take (stop - (end + 1)) (drop (end + 1) line) ∷ wordsAfter line stop
 after-word line end stop h e = rw (lt-ltb end (length line) h) (word-from line (end + 1) stop (omega arith) e)
 
 pub after-out : (line : List ℕ) (end : ℕ) → length line ≤ end → wordsAfter line end ≡ []
 after-out line end h = rw (le-ltb end (length line) h)
 
 -- comparing two words byte by byte
-pub same-goes-on : (word name : List ℕ) (i : ℕ) → i < length word → i < length name → getD word i 0 ≡ getD name i 0 → same (drop i word) (drop i name) ≡ same (drop (i + 1) word) (drop (i + 1) name)
+pub same-goes-on : (word name : List ℕ) (i : ℕ) → i < length word → i < length name → getD word i 0 ≡ getD name i 0
+    → same (drop i word) (drop i name) ≡ same (drop (i + 1) word) (drop (i + 1) name)
 same-goes-on word name i h g e = rw (from-here word i h, from-here name i g, eq-eqb _ _ e)
 
-pub same-differs : (word name : List ℕ) (i : ℕ) → i < length word → i < length name → (getD word i 0 ≡ getD name i 0 → ⊥) → same (drop i word) (drop i name) ≡ false
+pub same-differs : (word name : List ℕ) (i : ℕ) → i < length word → i < length name → (getD word i 0 ≡ getD name i 0 → ⊥)
+    → same (drop i word) (drop i name) ≡ false
 same-differs word name i h g e = rw (from-here word i h, from-here name i g, ne-eqb _ _ e)
 
 pub same-ends : (word name : List ℕ) (i : ℕ) → length word ≤ i → length name ≤ i → same (drop i word) (drop i name) ≡ true

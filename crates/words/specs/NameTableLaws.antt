@@ -18,7 +18,8 @@ pub found-is-listed : {A : Type 0} (none : A) (name : List ℕ) (rows : List (Ro
 found-is-listed none name [] = inl refl
 found-is-listed {A} none name (r ∷ rows) = by-test (found-is-listed none name rows) (same name (r .name)) refl
   where
-    by-test : (found none name rows ≡ none) ⊎ Listed name (found none name rows) rows → (t : Bool) → same name (r .name) ≡ t → (cond t (r .meaning) (found none name rows) ≡ none) ⊎ Listed name (cond t (r .meaning) (found none name rows)) (r ∷ rows)
+    by-test : (found none name rows ≡ none) ⊎ Listed name (found none name rows) rows → (t : Bool) → same name (r .name) ≡ t
+        → (cond t (r .meaning) (found none name rows) ≡ none) ⊎ Listed name (cond t (r .meaning) (found none name rows)) (r ∷ rows)
     by-test ih true e = inr (here (same-equal name (r .name) e) refl)
     by-test (inl p) false e = inl p
     by-test (inr l) false e = inr (there l)

@@ -44,11 +44,31 @@ is-same-requires-4 c κs = search needs
 
 returns-4 : tie.Need-returns-4
 unfolding boardOfOne
-returns-4 c = rw (← c .before .before .before .before .before .before .before .before .before .before .is-same .ensures, c .before .before .before .before .before .before .before .before .before .if1 .left, ← c .before .before .before .before .before .before .before .is-same2 .ensures, c .before .before .before .before .before .before .if2 .left, ← c .before .before .before .before .is-same3 .ensures, c .before .before .before .if3 .left, ← c .before .is-same4 .ensures, c .if4 .taken)
+returns-4 c =
+    rw (
+      ← c .before .before .before .before .before .before .before .before .before .before .is-same .ensures,
+      c .before .before .before .before .before .before .before .before .before .if1 .left,
+      ← c .before .before .before .before .before .before .before .is-same2 .ensures,
+      c .before .before .before .before .before .before .if2 .left,
+      ← c .before .before .before .before .is-same3 .ensures,
+      c .before .before .before .if3 .left,
+      ← c .before .is-same4 .ensures,
+      c .if4 .taken,
+    )
 
 returns-5 : tie.Need-returns-5
 unfolding boardOfOne
-returns-5 c = rw (← c .before .before .before .before .before .before .before .before .before .before .is-same .ensures, c .before .before .before .before .before .before .before .before .before .if1 .left, ← c .before .before .before .before .before .before .before .is-same2 .ensures, c .before .before .before .before .before .before .if2 .left, ← c .before .before .before .before .is-same3 .ensures, c .before .before .before .if3 .left, ← c .before .is-same4 .ensures, c .if4 .left)
+returns-5 c =
+    rw (
+      ← c .before .before .before .before .before .before .before .before .before .before .is-same .ensures,
+      c .before .before .before .before .before .before .before .before .before .if1 .left,
+      ← c .before .before .before .before .before .before .before .is-same2 .ensures,
+      c .before .before .before .before .before .before .if2 .left,
+      ← c .before .before .before .before .is-same3 .ensures,
+      c .before .before .before .if3 .left,
+      ← c .before .is-same4 .ensures,
+      c .if4 .left,
+    )
 
 pub board-of-one-spec : {M : Type 1} → statement M
 board-of-one-spec =

@@ -18,7 +18,12 @@ word-end-requires : tie.Need-word-end-requires
 word-end-requires c κs = search needs
 
 returns-2 : tie.Need-returns-2
-returns-2 c = let line = c .before .before .before .before .args .line .now in let end = c .before .before .before .before .args .end in let stop = c .before .word-end .result in let cut = after-word line end stop (c .before .before .if1 .left) (c .before .word-end .ensures) in rw (cut, after-out line stop (c .if2 .taken))
+returns-2 c =
+    let line = c .before .before .before .before .args .line .now in
+    let end = c .before .before .before .before .args .end in
+    let stop = c .before .word-end .result in
+    let cut = after-word line end stop (c .before .before .if1 .left) (c .before .word-end .ensures) in
+    rw (cut, after-out line stop (c .if2 .taken))
 
 add-digits : tie.Need-add-digits
 add-digits c = search needs
@@ -27,7 +32,15 @@ word-end-requires-2 : tie.Need-word-end-requires-2
 word-end-requires-2 c κs = search needs
 
 returns-3 : tie.Need-returns-3
-returns-3 c = let line = c .before .before .before .before .before .before .args .line .now in let end = c .before .before .before .before .before .before .args .end in let stop = c .before .before .before .word-end .result in let cut = after-word line end stop (c .before .before .before .before .if1 .left) (c .before .before .before .word-end .ensures) in let close = c .before .word-end2 .result in let cut2 = after-word line stop close (c .before .before .if2 .left) (c .before .word-end2 .ensures) in let cut3 = after-word line close (close + 1 + wordLength (drop (close + 1) line)) (c .if3 .taken) refl in rw (cut, cut2, cut3)
+returns-3 c =
+    let line = c .before .before .before .before .before .before .args .line .now in
+    let end = c .before .before .before .before .before .before .args .end in
+    let stop = c .before .before .before .word-end .result in
+    let cut = after-word line end stop (c .before .before .before .before .if1 .left) (c .before .before .before .word-end .ensures) in
+    let close = c .before .word-end2 .result in
+    let cut2 = after-word line stop close (c .before .before .if2 .left) (c .before .word-end2 .ensures) in
+    let cut3 = after-word line close (close + 1 + wordLength (drop (close + 1) line)) (c .if3 .taken) refl in
+    rw (cut, cut2, cut3)
 
 sub-read-number : tie.Need-sub-read-number
 sub-read-number c = search needs
@@ -54,7 +67,14 @@ hex-line-requires : tie.Need-hex-line-requires
 hex-line-requires c κs = search needs
 
 returns-4 : tie.Need-returns-4
-returns-4 c = let line = c .before .before .before .before .before .before .before .before .before .before .args .line .now in let end = c .before .before .before .before .before .before .before .before .before .before .args .end in let stop = c .before .before .before .before .before .before .before .word-end .result in let cut = after-word line end stop (c .before .before .before .before .before .before .before .before .if1 .left) (c .before .before .before .before .before .before .before .word-end .ensures) in let close = c .before .before .before .before .before .word-end2 .result in let cut2 = after-word line stop close (c .before .before .before .before .before .before .if2 .left) (c .before .before .before .before .before .word-end2 .ensures) in rw (cut, cut2, after-out line close (c .before .before .before .before .if3 .left), ← c .before .before .read-number .ensures, ← c .hex-line .ensures)
+returns-4 c =
+    let line = c .before .before .before .before .before .before .before .before .before .before .args .line .now in
+    let end = c .before .before .before .before .before .before .before .before .before .before .args .end in
+    let stop = c .before .before .before .before .before .before .before .word-end .result in
+    let cut = after-word line end stop (c .before .before .before .before .before .before .before .before .if1 .left) (c .before .before .before .before .before .before .before .word-end .ensures) in
+    let close = c .before .before .before .before .before .word-end2 .result in
+    let cut2 = after-word line stop close (c .before .before .before .before .before .before .if2 .left) (c .before .before .before .before .before .word-end2 .ensures) in
+    rw (cut, cut2, after-out line close (c .before .before .before .before .if3 .left), ← c .before .before .read-number .ensures, ← c .hex-line .ensures)
 
 pub bytes-line-spec : {M : Type 1} → statement M
 bytes-line-spec =

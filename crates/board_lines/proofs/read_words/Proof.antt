@@ -28,7 +28,11 @@ bytes-line-requires c κs = search needs
 
 returns : tie.Need-returns
 unfolding boardWords
-returns c = let line = c .before .before .before .before .before .before .before .args .line .now in let stop = c .before .before .before .before .before .word-end .result in let cut = word-from line 0 stop (omega arith) (c .before .before .before .before .before .word-end .ensures) in rw (cut, ← c .before .before .is-same .ensures, c .before .if1 .taken, ← c .bytes-line .ensures)
+returns c =
+    let line = c .before .before .before .before .before .before .before .args .line .now in
+    let stop = c .before .before .before .before .before .word-end .result in
+    let cut = word-from line 0 stop (omega arith) (c .before .before .before .before .before .word-end .ensures) in
+    rw (cut, ← c .before .before .is-same .ensures, c .before .if1 .taken, ← c .bytes-line .ensures)
 
 read-numbers-requires : tie.Need-read-numbers-requires
 read-numbers-requires c κs = search needs
@@ -47,7 +51,11 @@ read-form-requires c κs = search needs
 
 returns-2 : tie.Need-returns-2
 unfolding boardWords
-returns-2 c = let line = c .before .before .before .before .before .before .before .before .before .args .line .now in let stop = c .before .before .before .before .before .before .before .word-end .result in let cut = word-from line 0 stop (omega arith) (c .before .before .before .before .before .before .before .word-end .ensures) in rw (cut, ← c .before .before .before .before .is-same .ensures, c .before .before .before .if1 .left, ← c .before .before .read-numbers .ensures, ← c .read-form .ensures)
+returns-2 c =
+    let line = c .before .before .before .before .before .before .before .before .before .args .line .now in
+    let stop = c .before .before .before .before .before .before .before .word-end .result in
+    let cut = word-from line 0 stop (omega arith) (c .before .before .before .before .before .before .before .word-end .ensures) in
+    rw (cut, ← c .before .before .before .before .is-same .ensures, c .before .before .before .if1 .left, ← c .before .before .read-numbers .ensures, ← c .read-form .ensures)
 
 pub read-words-spec : {M : Type 1} → statement M
 read-words-spec =

@@ -21,7 +21,10 @@ returns-2 c = (rw (above 48 57 (c .before .before .before .before .args .byte) (
 
 returns-3 : tie.Need-returns-3
 unfolding digit
-returns-3 c = (rw (above 48 57 (c .before .before .before .before .before .before .args .byte) (omega arith), above 65 70 (c .before .before .before .before .before .before .args .byte) (omega arith), within 97 102 (c .before .before .before .before .before .before .args .byte) (omega arith) (omega arith)), omega arith)
+returns-3 c = (
+  rw (above 48 57 (c .before .before .before .before .before .before .args .byte) (omega arith), above 65 70 (c .before .before .before .before .before .before .args .byte) (omega arith), within 97 102 (c .before .before .before .before .before .before .args .byte) (omega arith) (omega arith)),
+  omega arith,
+)
 
 returns-4 : tie.Need-returns-4
 unfolding digit
@@ -37,7 +40,8 @@ returns-6 c = (rw (above 48 57 (c .before .before .before .before .before .args 
 
 returns-7 : tie.Need-returns-7
 unfolding digit
-returns-7 c = (rw (above 48 57 (c .before .before .before .before .before .before .args .byte) (omega arith), above 65 70 (c .before .before .before .before .before .before .args .byte) (omega arith), above 97 102 (c .before .before .before .before .before .before .args .byte) (omega arith)), omega arith)
+returns-7 c =
+    (rw (above 48 57 (c .before .before .before .before .before .before .args .byte) (omega arith), above 65 70 (c .before .before .before .before .before .before .args .byte) (omega arith), above 97 102 (c .before .before .before .before .before .before .args .byte) (omega arith)), omega arith)
 
 pub digit-of-spec : {M : Type 1} → statement M
 digit-of-spec =

@@ -27,10 +27,14 @@ digit-of-requires : tie.Need-digit-of-requires Inv-loop μ-loop
 digit-of-requires c κs = search needs
 
 returns-2 : tie.Need-returns-2 Inv-loop μ-loop
-returns-2 c = sym (c .before .before .before .before .loop .inv .1 ∙ number-bad (c .before .before .before .before .before .before .before .args .word .now) (c .before .before .before .before .loop .i) (c .before .before .before .before .loop .value) (c .before .before .before .loop-test .taken) (omega arith))
+returns-2 c =
+    let at = c .before .before .before .before .loop in
+    sym (at .inv .1 ∙ number-bad (c .before .before .before .before .before .before .before .args .word .now) (at .i) (at .value) (c .before .before .before .loop-test .taken) (omega arith))
 
 returns-3 : tie.Need-returns-3 Inv-loop μ-loop
-returns-3 c = sym (c .before .before .before .before .before .loop .inv .1 ∙ number-wide (c .before .before .before .before .before .before .before .before .args .word .now) (c .before .before .before .before .before .loop .i) (c .before .before .before .before .before .loop .value) (c .before .before .before .before .loop-test .taken) (omega arith))
+returns-3 c =
+    sym (c .before .before .before .before .before .loop .inv .1 ∙ number-wide (c .before .before .before .before .before .before .before .before .args .word .now) (c .before .before .before .before .before .loop .i) (c .before .before .before .before .before .loop .value)
+    (c .before .before .before .before .loop-test .taken) (omega arith))
 
 mul-value : tie.Need-mul-value Inv-loop μ-loop
 mul-value c = search needs
@@ -45,7 +49,10 @@ loop-less : tie.Need-loop-less Inv-loop μ-loop
 loop-less c = search needs
 
 loop-again : tie.Need-loop-again Inv-loop μ-loop
-loop-again c = (omega arith, c .before .before .before .before .before .loop .inv .1 ∙ number-goes-on (c .before .before .before .before .before .before .before .before .args .word .now) (c .before .before .before .before .before .loop .i) (c .before .before .before .before .before .loop .value) (c .before .before .before .before .loop-test .taken) (omega arith) ∙ rw (← c .before .before .digit-of .ensures .0))
+loop-again c = let at = c .before .before .before .before .before .loop in (
+  omega arith,
+  at .inv .1 ∙ number-goes-on (c .before .before .before .before .before .before .before .before .args .word .now) (at .i) (at .value) (c .before .before .before .before .loop-test .taken) (omega arith) ∙ rw (← c .before .before .digit-of .ensures .0),
+)
 
 returns-4 : tie.Need-returns-4 Inv-loop μ-loop
 returns-4 c = sym (c .before .loop .inv .1 ∙ number-ends (c .before .before .before .before .args .word .now) (c .before .loop .i) (c .before .loop .value) (c .loop-test .left) (c .before .loop .inv .0))

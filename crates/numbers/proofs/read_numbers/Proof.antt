@@ -46,7 +46,13 @@ loop-less : tie.Need-loop-less Inv-loop μ-loop
 loop-less c = omega (arith, c .before .before .before .word-end .ensures)
 
 loop-again : tie.Need-loop-again Inv-loop μ-loop
-loop-again c = let line = c .before .before .before .before .before .before .before .args .line .now in let at = c .before .before .before .before .before .loop .at in let stop = c .before .before .before .word-end .result in let cut = after-word line at stop (c .before .before .before .before .loop-test .taken) (c .before .before .before .word-end .ensures) in c .before .before .before .before .before .loop .inv ∙ rw cut (gather-goes-on (c .before .before .before .before .before .loop .before) (c .add-number .result) (c .before .read-number .result) (take (stop - (at + 1)) (drop (at + 1) line)) (wordsAfter line stop) (c .before .read-number .ensures) (c .add-number .ensures))
+loop-again c =
+    let line = c .before .before .before .before .before .before .before .args .line .now in
+    let at = c .before .before .before .before .before .loop .at in
+    let stop = c .before .before .before .word-end .result in
+    let cut = after-word line at stop (c .before .before .before .before .loop-test .taken) (c .before .before .before .word-end .ensures) in
+    c .before .before .before .before .before .loop .inv
+    ∙ rw cut (gather-goes-on (c .before .before .before .before .before .loop .before) (c .add-number .result) (c .before .read-number .result) (take (stop - (at + 1)) (drop (at + 1) line)) (wordsAfter line stop) (c .before .read-number .ensures) (c .add-number .ensures))
 
 returns : tie.Need-returns Inv-loop μ-loop
 returns c = sym (c .before .loop .inv ∙ rw (after-out (c .before .before .before .args .line .now) (c .before .loop .at) (c .loop-test .left)))

@@ -44,7 +44,12 @@ is-same-requires : tie.Need-is-same-requires Inv-loop μ-loop
 is-same-requires c κs = search needs
 
 returns : tie.Need-returns Inv-loop μ-loop
-returns c = let line = c .before .before .before .before .before .before .before .before .args .line .now in let at = c .before .before .before .before .before .before .loop .at in let stop = c .before .before .before .before .word-end .result in let cut = after-word line at stop (c .before .before .before .before .before .loop-test .taken) (c .before .before .before .before .word-end .ensures) in (sym (c .before .before .before .before .before .before .loop .inv .0 ∙ rw (cut, ← c .before .is-same .ensures, c .if1 .taken)), sym (c .before .before .before .before .before .before .loop .inv .1 ∙ rw (cut, ← c .before .is-same .ensures, c .if1 .taken)))
+returns c =
+    let line = c .before .before .before .before .before .before .before .before .args .line .now in
+    let at = c .before .before .before .before .before .before .loop .at in
+    let stop = c .before .before .before .before .word-end .result in
+    let cut = after-word line at stop (c .before .before .before .before .before .loop-test .taken) (c .before .before .before .before .word-end .ensures) in
+    (sym (c .before .before .before .before .before .before .loop .inv .0 ∙ rw (cut, ← c .before .is-same .ensures, c .if1 .taken)), sym (c .before .before .before .before .before .before .loop .inv .1 ∙ rw (cut, ← c .before .is-same .ensures, c .if1 .taken)))
 
 sub-read-number : tie.Need-sub-read-number Inv-loop μ-loop
 sub-read-number c = search needs
@@ -53,7 +58,8 @@ part-read-number-start : tie.Need-part-read-number-start Inv-loop μ-loop
 part-read-number-start c = search needs
 
 part-read-number-end : tie.Need-part-read-number-end Inv-loop μ-loop
-part-read-number-end c = word-end-bound (c .before .before .before .before .before .before .before .before .args .line .now) (c .before .before .before .before .before .before .loop .at + 1) (c .before .before .before .before .word-end .result) (omega arith) (c .before .before .before .before .word-end .ensures)
+part-read-number-end c =
+    word-end-bound (c .before .before .before .before .before .before .before .before .args .line .now) (c .before .before .before .before .before .before .loop .at + 1) (c .before .before .before .before .word-end .result) (omega arith) (c .before .before .before .before .word-end .ensures)
 
 read-number-requires : tie.Need-read-number-requires Inv-loop μ-loop
 read-number-requires c κs = search needs
@@ -65,7 +71,16 @@ loop-less : tie.Need-loop-less Inv-loop μ-loop
 loop-less c = omega (arith, c .before .before .before .before .before .before .before .word-end .ensures)
 
 loop-again : tie.Need-loop-again Inv-loop μ-loop
-loop-again c = let line = c .before .before .before .before .before .before .before .before .before .before .before .args .line .now in let at = c .before .before .before .before .before .before .before .before .before .loop .at in let stop = c .before .before .before .before .before .before .before .word-end .result in let cut = after-word line at stop (c .before .before .before .before .before .before .before .before .loop-test .taken) (c .before .before .before .before .before .before .before .word-end .ensures) in (c .before .before .before .before .before .before .before .before .before .loop .inv .0 ∙ rw (cut, ← c .before .before .before .before .is-same .ensures, c .before .before .before .if1 .left) (gather-goes-on (c .before .before .before .before .before .before .before .before .before .loop .before) (c .add-number .result) (c .before .read-number .result) (take (stop - (at + 1)) (drop (at + 1) line)) (beforeColon (wordsAfter line stop)) (c .before .read-number .ensures) (c .add-number .ensures)), c .before .before .before .before .before .before .before .before .before .loop .inv .1 ∙ rw (cut, ← c .before .before .before .before .is-same .ensures, c .before .before .before .if1 .left))
+loop-again c =
+    let line = c .before .before .before .before .before .before .before .before .before .before .before .args .line .now in
+    let at = c .before .before .before .before .before .before .before .before .before .loop .at in
+    let stop = c .before .before .before .before .before .before .before .word-end .result in
+    let cut = after-word line at stop (c .before .before .before .before .before .before .before .before .loop-test .taken) (c .before .before .before .before .before .before .before .word-end .ensures) in
+    let word = take (stop - (at + 1)) (drop (at + 1) line) in
+    let gathers = gather-goes-on (c .before .before .before .before .before .before .before .before .before .loop .before) (c .add-number .result) (c .before .read-number .result) word (beforeColon (wordsAfter line stop)) (c .before .read-number .ensures) (c .add-number .ensures) in (
+      c .before .before .before .before .before .before .before .before .before .loop .inv .0 ∙ rw (cut, ← c .before .before .before .before .is-same .ensures, c .before .before .before .if1 .left) gathers,
+      c .before .before .before .before .before .before .before .before .before .loop .inv .1 ∙ rw (cut, ← c .before .before .before .before .is-same .ensures, c .before .before .before .if1 .left),
+    )
 
 returns-2 : tie.Need-returns-2 Inv-loop μ-loop
 returns-2 c = let out = after-out (c .before .before .before .args .line .now) (c .before .loop .at) (c .loop-test .left) in (sym (c .before .loop .inv .0 ∙ rw out), sym (c .before .loop .inv .1 ∙ rw out))

@@ -31,7 +31,12 @@ is-same-requires : tie.Need-is-same-requires
 is-same-requires c κs = search needs
 
 returns-2 : tie.Need-returns-2
-returns-2 c = let line = c .before .before .before .before .before .before .before .before .args .line .now in let end = c .before .before .before .before .before .before .before .before .args .end in let stop = c .before .before .before .before .word-end .result in let cut = after-word line end stop (c .before .before .before .before .before .if1 .left) (c .before .before .before .before .word-end .ensures) in as-meant (rw (cut, ← c .before .is-same .ensures, c .if2 .taken)) (says-unclear _)
+returns-2 c =
+    let line = c .before .before .before .before .before .before .before .before .args .line .now in
+    let end = c .before .before .before .before .before .before .before .before .args .end in
+    let stop = c .before .before .before .before .word-end .result in
+    let cut = after-word line end stop (c .before .before .before .before .before .if1 .left) (c .before .before .before .before .word-end .ensures) in
+    as-meant (rw (cut, ← c .before .is-same .ensures, c .if2 .taken)) (says-unclear _)
 
 part-at-colon-requires : tie.Need-part-at-colon-requires
 part-at-colon-requires c κs = search needs
@@ -43,7 +48,9 @@ part-read-form-start : tie.Need-part-read-form-start
 part-read-form-start c = search needs
 
 part-read-form-end : tie.Need-part-read-form-end
-part-read-form-end c = word-end-bound (c .before .before .before .before .before .before .before .before .before .args .line .now) (c .before .before .before .before .before .before .before .before .before .args .end + 1) (c .before .before .before .before .before .word-end .result) (omega arith) (c .before .before .before .before .before .word-end .ensures)
+part-read-form-end c =
+    word-end-bound (c .before .before .before .before .before .before .before .before .before .args .line .now) (c .before .before .before .before .before .before .before .before .before .args .end + 1) (c .before .before .before .before .before .word-end .result) (omega arith)
+    (c .before .before .before .before .before .word-end .ensures)
 
 read-form-requires : tie.Need-read-form-requires
 read-form-requires c κs = search needs
@@ -55,7 +62,15 @@ same-length : tie.Need-same-length
 same-length c = search needs
 
 returns-3 : tie.Need-returns-3
-returns-3 c = let line = c .before .before .before .before .before .before .before .before .before .before .before .before .before .before .before .args .line .now in let end = c .before .before .before .before .before .before .before .before .before .before .before .before .before .before .before .args .end in let stop = c .before .before .before .before .before .before .before .before .before .before .before .word-end .result in let cut = after-word line end stop (c .before .before .before .before .before .before .before .before .before .before .before .before .if1 .left) (c .before .before .before .before .before .before .before .before .before .before .before .word-end .ensures) in as-meant (rw (cut, ← c .before .before .before .before .before .before .before .before .is-same .ensures, c .before .before .before .before .before .before .before .if2 .left, ← c .before .before .before .before .before .before .part-at-colon .ensures .0, ← c .before .before .before .before .read-form .ensures, ← c .before .before .before .before .before .before .part-at-colon .ensures .1)) (c .before .before .read-reading .ensures)
+returns-3 c =
+    let line = c .before .before .before .before .before .before .before .before .before .before .before .before .before .before .before .args .line .now in
+    let end = c .before .before .before .before .before .before .before .before .before .before .before .before .before .before .before .args .end in
+    let stop = c .before .before .before .before .before .before .before .before .before .before .before .word-end .result in
+    let cut = after-word line end stop (c .before .before .before .before .before .before .before .before .before .before .before .before .if1 .left) (c .before .before .before .before .before .before .before .before .before .before .before .word-end .ensures) in
+    let parted = c .before .before .before .before .before .before .part-at-colon .ensures in
+    as-meant
+    (rw (cut, ← c .before .before .before .before .before .before .before .before .is-same .ensures, c .before .before .before .before .before .before .before .if2 .left, ← parted .0, ← c .before .before .before .before .read-form .ensures, ← parted .1))
+    (c .before .before .read-reading .ensures)
 
 pub read-read-spec : {M : Type 1} → statement M
 read-read-spec =

@@ -32,14 +32,22 @@ enum-known-request c = search needs
 
 returns : tie.Need-returns
 unfolding podWords
-returns c = let line = c .before .before .before .before .before .before .before .before .before .before .before .args .line .now in let stop = c .before .before .before .before .before .before .before .before .word-end .result in let cut = word-from line 0 stop (omega arith) (c .before .before .before .before .before .before .before .before .word-end .ensures) in as-meant (rw (cut, ← c .before .before .before .before .before .is-same .ensures, c .before .before .before .before .if1 .taken, ← c .before .before .before .read-request .ensures, c .before .request .given .1)) (says-build _ _)
+returns c =
+    let line = c .before .before .before .before .before .before .before .before .before .before .before .args .line .now in
+    let stop = c .before .before .before .before .before .before .before .before .word-end .result in
+    let cut = word-from line 0 stop (omega arith) (c .before .before .before .before .before .before .before .before .word-end .ensures) in
+    as-meant (rw (cut, ← c .before .before .before .before .before .is-same .ensures, c .before .before .before .before .if1 .taken, ← c .before .before .before .read-request .ensures, c .before .request .given .1)) (says-build _ _)
 
 enum-told : tie.Need-enum-told
 enum-told c = search needs
 
 returns-2 : tie.Need-returns-2
 unfolding podWords
-returns-2 c = let line = c .before .before .before .before .before .before .before .before .before .before .args .line .now in let stop = c .before .before .before .before .before .before .before .word-end .result in let cut = word-from line 0 stop (omega arith) (c .before .before .before .before .before .before .before .word-end .ensures) in as-meant (rw (cut, ← c .before .before .before .before .is-same .ensures, c .before .before .before .if1 .taken, ← c .before .before .read-request .ensures, c .enum-told .given .1)) (says-unclear _)
+returns-2 c =
+    let line = c .before .before .before .before .before .before .before .before .before .before .args .line .now in
+    let stop = c .before .before .before .before .before .before .before .word-end .result in
+    let cut = word-from line 0 stop (omega arith) (c .before .before .before .before .before .before .before .word-end .ensures) in
+    as-meant (rw (cut, ← c .before .before .before .before .is-same .ensures, c .before .before .before .if1 .taken, ← c .before .before .read-request .ensures, c .enum-told .given .1)) (says-unclear _)
 
 sub-is-same-2 : tie.Need-sub-is-same-2
 sub-is-same-2 c = search needs
@@ -64,11 +72,21 @@ same-length c = search needs
 
 returns-3 : tie.Need-returns-3
 unfolding podWords
-returns-3 c = let line = c .before .before .before .before .before .before .before .before .before .before .before .before .before .before .before .args .line .now in let stop = c .before .before .before .before .before .before .before .before .before .before .before .before .word-end .result in let cut = word-from line 0 stop (omega arith) (c .before .before .before .before .before .before .before .before .before .before .before .before .word-end .ensures) in as-meant (rw (cut, ← c .before .before .before .before .before .before .before .before .before .is-same .ensures, c .before .before .before .before .before .before .before .before .if1 .left, ← c .before .before .before .before .before .is-same2 .ensures, c .before .before .before .before .if2 .taken)) (c .before .before .read-read .ensures)
+returns-3 c =
+    let line = c .before .before .before .before .before .before .before .before .before .before .before .before .before .before .before .args .line .now in
+    let stop = c .before .before .before .before .before .before .before .before .before .before .before .before .word-end .result in
+    let cut = word-from line 0 stop (omega arith) (c .before .before .before .before .before .before .before .before .before .before .before .before .word-end .ensures) in
+    as-meant
+    (rw (cut, ← c .before .before .before .before .before .before .before .before .before .is-same .ensures, c .before .before .before .before .before .before .before .before .if1 .left, ← c .before .before .before .before .before .is-same2 .ensures, c .before .before .before .before .if2 .taken))
+    (c .before .before .read-read .ensures)
 
 returns-4 : tie.Need-returns-4
 unfolding podWords
-returns-4 c = let line = c .before .before .before .before .before .before .before .before .before .before .before .args .line .now in let stop = c .before .before .before .before .before .before .before .before .word-end .result in let cut = word-from line 0 stop (omega arith) (c .before .before .before .before .before .before .before .before .word-end .ensures) in as-meant (rw (cut, ← c .before .before .before .before .before .is-same .ensures, c .before .before .before .before .if1 .left, ← c .before .is-same2 .ensures, c .if2 .left)) (says-unclear _)
+returns-4 c =
+    let line = c .before .before .before .before .before .before .before .before .before .before .before .args .line .now in
+    let stop = c .before .before .before .before .before .before .before .before .word-end .result in
+    let cut = word-from line 0 stop (omega arith) (c .before .before .before .before .before .before .before .before .word-end .ensures) in
+    as-meant (rw (cut, ← c .before .before .before .before .before .is-same .ensures, c .before .before .before .before .if1 .left, ← c .before .is-same2 .ensures, c .if2 .left)) (says-unclear _)
 
 pub read-words-spec : {M : Type 1} → statement M
 read-words-spec =

@@ -28,7 +28,9 @@ read-form-requires : tie.Need-read-form-requires
 read-form-requires c κs = search needs
 
 returns : tie.Need-returns
-returns c = let cut = word-from (c .before .before .before .before .before .args .line .now) (c .before .before .before .before .before .args .start) (c .before .before .before .word-end .result) (c .before .before .before .before .before .pre) (c .before .before .before .word-end .ensures) in rw (cut, ← c .before .before .read-numbers .ensures, ← c .read-form .ensures)
+returns c =
+    let cut = word-from (c .before .before .before .before .before .args .line .now) (c .before .before .before .before .before .args .start) (c .before .before .before .word-end .result) (c .before .before .before .before .before .pre) (c .before .before .before .word-end .ensures) in
+    rw (cut, ← c .before .before .read-numbers .ensures, ← c .read-form .ensures)
 
 pub read-from-spec : {M : Type 1} → statement M
 read-from-spec =

@@ -41,7 +41,12 @@ is-number-requires : tie.Need-is-number-requires Inv-loop μ-loop
 is-number-requires c κs = search needs
 
 returns : tie.Need-returns Inv-loop μ-loop
-returns c = let line = c .before .before .before .before .before .before .before .args .line .now in let at = c .before .before .before .before .before .loop .at in let stop = c .before .before .before .word-end .result in let cut = after-word line at stop (c .before .before .before .before .loop-test .taken) (c .before .before .before .word-end .ensures) in sym (c .before .before .before .before .before .loop .inv .1 ∙ rw cut (count-stops (c .before .before .before .before .before .loop .count) (take (stop - (at + 1)) (drop (at + 1) line)) (wordsAfter line stop) (sym (c .before .is-number .ensures) ∙ not-true _ (c .if1 .taken))))
+returns c =
+    let line = c .before .before .before .before .before .before .before .args .line .now in
+    let at = c .before .before .before .before .before .loop .at in
+    let stop = c .before .before .before .word-end .result in
+    let cut = after-word line at stop (c .before .before .before .before .loop-test .taken) (c .before .before .before .word-end .ensures) in
+    sym (c .before .before .before .before .before .loop .inv .1 ∙ rw cut (count-stops (c .before .before .before .before .before .loop .count) (take (stop - (at + 1)) (drop (at + 1) line)) (wordsAfter line stop) (sym (c .before .is-number .ensures) ∙ not-true _ (c .if1 .taken))))
 
 add-count : tie.Need-add-count Inv-loop μ-loop
 add-count c = search needs
@@ -50,7 +55,14 @@ loop-less : tie.Need-loop-less Inv-loop μ-loop
 loop-less c = omega (arith, c .before .before .before .word-end .ensures)
 
 loop-again : tie.Need-loop-again Inv-loop μ-loop
-loop-again c = let line = c .before .before .before .before .before .before .before .args .line .now in let at = c .before .before .before .before .before .loop .at in let stop = c .before .before .before .word-end .result in let cut = after-word line at stop (c .before .before .before .before .loop-test .taken) (c .before .before .before .word-end .ensures) in (omega (arith, c .before .before .before .word-end .ensures), c .before .before .before .before .before .loop .inv .1 ∙ rw cut (count-goes-on (c .before .before .before .before .before .loop .count) (take (stop - (at + 1)) (drop (at + 1) line)) (wordsAfter line stop) (sym (c .before .is-number .ensures) ∙ not-false _ (c .if1 .left))))
+loop-again c =
+    let line = c .before .before .before .before .before .before .before .args .line .now in
+    let at = c .before .before .before .before .before .loop .at in
+    let stop = c .before .before .before .word-end .result in
+    let cut = after-word line at stop (c .before .before .before .before .loop-test .taken) (c .before .before .before .word-end .ensures) in (
+      omega (arith, c .before .before .before .word-end .ensures),
+      c .before .before .before .before .before .loop .inv .1 ∙ rw cut (count-goes-on (c .before .before .before .before .before .loop .count) (take (stop - (at + 1)) (drop (at + 1) line)) (wordsAfter line stop) (sym (c .before .is-number .ensures) ∙ not-false _ (c .if1 .left))),
+    )
 
 returns-2 : tie.Need-returns-2 Inv-loop μ-loop
 returns-2 c = sym (c .before .loop .inv .1 ∙ rw (after-out (c .before .before .before .args .line .now) (c .before .loop .at) (c .loop-test .left), add-zero))
