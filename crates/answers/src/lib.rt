@@ -1,23 +1,20 @@
 // The bench around the board: its lines answered, as the desk's language has them for stand_in and talk.
 use board::Board;
 use board::Place;
+use board_lines::BoardLine;
 use comparators::BusAccess;
 use grounds::Verdict;
 use groups::Bus;
-use lines::BoardLine;
 use text::request::put_refusal;
 use text::request::put_unclear;
 use trigger::Event;
-ghost use Prim.Native.Nat.{_+_, _*_, min};
 ghost use mathlib.Core.Path.{_≡_};
-ghost use lib.ListN.{set};
 ghost use lib.Seq.{sets};
-ghost use Rattle.words.specs.Numbers.{byteAt};
 ghost use Rattle.board.specs.Board.{freshBoard, freshPlace, makingVerdict};
-ghost use Rattle.port.specs.Packets.{packetVerdict, boardNext, placeNext, unless};
+ghost use Rattle.port.specs.Packets.{unless};
 ghost use Rattle.bus.specs.Events.{boardAfterEvent, boardAfterBreakpoint};
-ghost use Rattle.answers.specs.Bench.{access, benchOf, benchLeft, zeros, bytesFrom, fits, writtenBy, lentWritten, memoryLeft};
-ghost use Rattle.lines.specs.declared.BoardLine.the-variants.{Packet, Bytes};
+ghost use Rattle.lent.specs.Lent.{zeros, bytesPut};
+ghost use Rattle.answers.specs.Bench.{access, benchOf, stepped, overLent, leaves};
 
 // The board, the place, and how many bytes of memory are lent.
 pub struct Bench {
@@ -61,7 +58,7 @@ pub fn bench_after(board: Board, place: Place, lent: usize, end: usize) -> Answe
 }
 
 fn make(w: u32, bench: Bench, text: &mut [u8]) -> Answered
-    ensures { λ r. ⌜ r .bench ≡ benchOf (unless (makingVerdict w) (freshBoard w) (bench .board)) (unless (makingVerdict w) freshPlace (bench .place)) (bench .lent) ⌝ }
+    ensures { λ r. ⌜ r .bench ≡ unless (makingVerdict w) (benchOf (freshBoard w) freshPlace (bench .lent)) bench ⌝ }
 {
     let made = board::make(w);
     let verdict = made.verdict;
@@ -79,78 +76,17 @@ fn make(w: u32, bench: Bench, text: &mut [u8]) -> Answered
     }
 }
 
-fn clear_at(memory: &mut [u8], i: usize)
-    ensures { λ _. ⌜ now (memory .exit) ≡ set (now (memory .entry)) i 0 ⌝ }
-{
-    if i < memory.len() {
-        memory[i] = 0;
-    }
-}
-
-fn clear(memory: &mut [u8], count: usize)
-    ensures { λ _. ⌜ now (memory .exit) ≡ sets (now (memory .entry)) 0 (zeros count) ⌝ }
-{
-    let mut i: usize = 0;
-    while i < count {
-        clear_at(memory, i);
-        i += 1;
-    }
-}
-
 fn lend(n: u32, bench: Bench, memory: &mut [u8], text: &mut [u8]) -> Answered
-    ensures { λ r. ⌜ (r .bench ≡ benchOf (bench .board) (bench .place) n) × (now (memory .exit) ≡ sets (now (memory .entry)) 0 (zeros n)) ⌝ }
+    ensures { λ r. ⌜ (r .bench ≡ benchOf (bench .board) (bench .place) n)
+        × (now (memory .exit) ≡ sets (now (memory .entry)) 0 (zeros n)) ⌝ }
 {
     let count = n as usize;
-    clear(memory, count);
+    lent::clear(memory, count);
     let at = text::put_text(text, 0, b"memory ");
     let end = text::put_number(text, at, count);
     let board = bench.board;
     let place = bench.place;
     bench_after(board, place, count, end)
-}
-
-fn copy_bytes(line: &[u8], start: usize, count: usize, memory: &mut [u8], to: usize)
-    ensures { λ _. ⌜ now (memory .exit) ≡ sets (now (memory .entry)) to (bytesFrom (now (line .entry)) start count) ⌝ }
-{
-    let mut i: usize = 0;
-    while i < count {
-        put_one(line, start, memory, to, i);
-        i += 1;
-    }
-}
-
-// The byte of a line's digits, so many bytes after a place; 0 beyond the line.
-fn byte_after(line: &[u8], start: usize, i: usize) -> u32
-    ensures { λ r. ⌜ r ≡ byteAt (now (line .entry)) (start + 2 * i) ⌝ }
-{
-    if line.len() <= start {
-        return 0;
-    }
-    if (line.len() - start) / 2 < i {
-        return 0;
-    }
-    words::number::byte_at(line, start + 2 * i)
-}
-
-fn put_one(line: &[u8], start: usize, memory: &mut [u8], to: usize, i: usize)
-    ensures { λ _. ⌜ now (memory .exit) ≡ set (now (memory .entry)) (to + i) (byteAt (now (line .entry)) (start + 2 * i)) ⌝ }
-{
-    if to <= memory.len() {
-        if i < memory.len() - to {
-            memory[to + i] = (byte_after(line, start, i) % 256) as u8;
-        }
-    }
-}
-
-// Whether so many bytes from an address on are lent.
-fn is_lent(address: u32, count: usize, lent: usize) -> bool
-    ensures { λ r. ⌜ r ≡ fits address count lent ⌝ }
-{
-    let from = address as usize;
-    if from <= lent {
-        return count <= lent - from;
-    }
-    false
 }
 
 fn put_bytes(
@@ -162,10 +98,10 @@ fn put_bytes(
     memory: &mut [u8],
     text: &mut [u8],
 ) -> Answered
-    ensures { λ r. ⌜ (r .bench ≡ bench) × (now (memory .exit) ≡ memoryLeft (now (line .entry)) (Bytes address start count) bench (now (memory .entry))) ⌝ }
+    ensures { λ r. ⌜ (r .bench ≡ bench)
+        × (now (memory .exit) ≡ bytesPut (now (line .entry)) start count address (bench .lent) (now (memory .entry))) ⌝ }
 {
-    if is_lent(address, count, bench.lent) {
-        copy_bytes(line, start, count, memory, address as usize);
+    if lent::put_bytes(line, start, count, address, bench.lent, memory) {
         let at = text::put_text(text, 0, b"bytes ");
         return Answered {
             bench: bench,
@@ -181,7 +117,7 @@ fn put_bytes(
 fn show_bytes(address: u32, count: u32, bench: Bench, memory: &[u8], text: &mut [u8]) -> Answered
     ensures { λ r. ⌜ r .bench ≡ bench ⌝ }
 {
-    if is_lent(address, count as usize, bench.lent) {
+    if lent::is_lent(address, count as usize, bench.lent) {
         return Answered {
             bench: bench,
             end: replies::put_peek(text, memory, address as usize, count),
@@ -193,18 +129,9 @@ fn show_bytes(address: u32, count: u32, bench: Bench, memory: &[u8], text: &mut 
     }
 }
 
-// The bytes lent, of those that there are.
-pub fn lent_of(lent: usize, most: usize) -> usize
-    ensures { λ r. ⌜ r ≡ min lent most ⌝ }
-{
-    if lent <= most {
-        return lent;
-    }
-    most
-}
-
 fn take_word(word: u32, bench: Bench, memory: &mut [u8], text: &mut [u8]) -> Answered
-    ensures { λ r. ⌜ (r .bench ≡ benchOf (unless (packetVerdict (bench .board) (bench .place) (now (memory .entry)) word) (boardNext (bench .board) (bench .place) word) (bench .board)) (unless (packetVerdict (bench .board) (bench .place) (now (memory .entry)) word) (placeNext (bench .board) (bench .place) (now (memory .entry)) word) (bench .place)) (bench .lent)) × (now (memory .exit) ≡ writtenBy word (bench .board) (bench .place) (now (memory .entry))) ⌝ }
+    ensures { λ r. ⌜ (r .bench ≡ stepped word bench (now (memory .entry)) .bench)
+        × (now (memory .exit) ≡ stepped word bench (now (memory .entry)) .memory) ⌝ }
 {
     let board = bench.board;
     let place = bench.place;
@@ -265,9 +192,10 @@ fn carrying(pc: u32, address: u32, attribute: u32, lanes: u32) -> Event
 }
 
 fn packet_line(word: u32, bench: Bench, memory: &mut [u8], text: &mut [u8]) -> Answered
-    ensures { λ r. ⌜ (r .bench ≡ benchLeft (Packet word) bench (now (memory .entry))) × (now (memory .exit) ≡ lentWritten word bench (now (memory .entry))) ⌝ }
+    ensures { λ r. ⌜ (r .bench ≡ overLent (stepped word) bench (now (memory .entry)) .bench)
+        × (now (memory .exit) ≡ overLent (stepped word) bench (now (memory .entry)) .memory) ⌝ }
 {
-    let n = lent_of(bench.lent, memory.len());
+    let n = lent::lent_of(bench.lent, memory.len());
     take_word(word, bench, &mut memory[..n], text)
 }
 
@@ -279,7 +207,8 @@ pub fn answer_line(
     memory: &mut [u8],
     text: &mut [u8],
 ) -> Answered
-    ensures { λ r. ⌜ (r .bench ≡ benchLeft asked bench (now (memory .entry))) × (now (memory .exit) ≡ memoryLeft (now (line .entry)) asked bench (now (memory .entry))) ⌝ }
+    ensures { λ r. ⌜ (r .bench ≡ leaves (now (line .entry)) asked bench (now (memory .entry)) .bench)
+        × (now (memory .exit) ≡ leaves (now (line .entry)) asked bench (now (memory .entry)) .memory) ⌝ }
 {
     match asked {
         BoardLine::Nothing => Answered {

@@ -1,18 +1,12 @@
 // A conversation: a line answered in one of the desk's languages, and line after line to the end of the input.
 ghost use mathlib.Core.Path.{_≡_};
-ghost use Rattle.answers.specs.Bench.{benchOf};
-ghost use Rattle.lines.specs.declared.TalkLine.the-variants.{Ask};
 ghost use Rattle.conversation.specs.declared.Heard.the-variants.{OfBench};
-ghost use Rattle.conversation.specs.Heard.{boardAsked, placeAsked, memoryAsked, lentAsked, heard, benchAfter, memoryAfter};
+ghost use Rattle.conversation.specs.Heard.{heard, after};
 use answers::Answered;
 use answers::Bench;
 use console::Input;
 use console::Unread;
-use exchange::Exchanged;
-use lines::TalkLine;
-use requests::Request;
-use text::request::put_exchange;
-use text::request::put_refusal;
+use talk_lines::TalkLine;
 
 mod pod;
 
@@ -34,42 +28,13 @@ pub enum Heard {
     OfPod,
 }
 
-fn put_exchanged(text: &mut [u8], answer: Exchanged) -> usize {
-    match answer {
-        Exchanged::Ended(outcome, packets) => put_exchange(text, outcome, packets),
-        Exchanged::Refused(ground) => put_refusal(text, ground),
-    }
-}
-
-fn converse(request: Request, bench: Bench, memory: &mut [u8], text: &mut [u8]) -> Answered
-    ensures { λ r. ⌜ (r .bench ≡ benchOf (boardAsked request (bench .board) (bench .place) (now (memory .entry))) (placeAsked request (bench .board) (bench .place) (now (memory .entry))) (bench .lent)) × (now (memory .exit) ≡ memoryAsked request (bench .board) (bench .place) (now (memory .entry))) ⌝ }
-{
-    let board = bench.board;
-    let place = bench.place;
-    let returned = exchange::exchange(request, board, place, memory);
-    let answer = returned.answer;
-    let board_next = returned.board;
-    let place_next = returned.place;
-    let end = put_exchanged(text, answer);
-    answers::bench_after(board_next, place_next, bench.lent, end)
-}
-
-// The exchange over the bytes lent, of those that there are.
-fn ask(request: Request, bench: Bench, memory: &mut [u8], text: &mut [u8]) -> Answered
-    ensures { λ r. ⌜ (r .bench ≡ benchAfter (OfBench (Ask request)) bench (now (memory .entry)))
-        × (now (memory .exit) ≡ lentAsked request bench (now (memory .entry))) ⌝ }
-{
-    let n = answers::lent_of(bench.lent, memory.len());
-    converse(request, bench, &mut memory[..n], text)
-}
-
 fn hear(language: Language, line: &[u8]) -> Heard
     ensures { λ r. ⌜ r ≡ heard language (now (line .entry)) ⌝ }
 {
     match language {
-        Language::StandIn => Heard::OfBench(TalkLine::Board(lines::read_stand_in_line(line))),
-        Language::Talk => Heard::OfBench(lines::read_talk_line(line)),
-        Language::Both => Heard::OfBench(lines::read_either_line(line)),
+        Language::StandIn => Heard::OfBench(TalkLine::Board(board_lines::read_line(line))),
+        Language::Talk => Heard::OfBench(talk_lines::read_talk_line(line)),
+        Language::Both => Heard::OfBench(talk_lines::read_either_line(line)),
         Language::Pod => Heard::OfPod,
     }
 }
@@ -81,12 +46,12 @@ fn answer_of_bench(
     memory: &mut [u8],
     text: &mut [u8],
 ) -> Answered
-    ensures { λ r. ⌜ (r .bench ≡ benchAfter (OfBench asked) bench (now (memory .entry)))
-        × (now (memory .exit) ≡ memoryAfter (now (line .entry)) (OfBench asked) bench (now (memory .entry))) ⌝ }
+    ensures { λ r. ⌜ (r .bench ≡ after (now (line .entry)) (OfBench asked) bench (now (memory .entry)) .bench)
+        × (now (memory .exit) ≡ after (now (line .entry)) (OfBench asked) bench (now (memory .entry)) .memory) ⌝ }
 {
     match asked {
         TalkLine::Board(asked) => answers::answer_line(line, asked, bench, memory, text),
-        TalkLine::Ask(request) => ask(request, bench, memory, text),
+        TalkLine::Ask(request) => asking::ask(request, bench, memory, text),
     }
 }
 
@@ -98,8 +63,8 @@ pub fn answer(
     memory: &mut [u8],
     text: &mut [u8],
 ) -> Answered
-    ensures { λ r. ⌜ (r .bench ≡ benchAfter (heard language (now (line .entry))) bench (now (memory .entry)))
-        × (now (memory .exit) ≡ memoryAfter (now (line .entry)) (heard language (now (line .entry))) bench (now (memory .entry))) ⌝ }
+    ensures { λ r. ⌜ (r .bench ≡ after (now (line .entry)) (heard language (now (line .entry))) bench (now (memory .entry)) .bench)
+        × (now (memory .exit) ≡ after (now (line .entry)) (heard language (now (line .entry))) bench (now (memory .entry)) .memory) ⌝ }
 {
     let meant = hear(language, line);
     match meant {

@@ -1,6 +1,6 @@
 // The pod's half: requests built and replies read (the desk's language, `pod`).
 use building::Built;
-use lines::PodLine;
+use pod_lines::PodLine;
 use requests::Request;
 use text::request::put_reading;
 use text::request::put_refusal;
@@ -31,7 +31,7 @@ fn read(request: Request, replies: &[u32], count: usize, text: &mut [u8]) -> usi
 // Where the answer to a line ends in the text; 0 where none is due. No line has more than 2,048 replies.
 pub fn answer(line: &[u8], text: &mut [u8]) -> usize {
     let mut replies = [0u32; 2048];
-    match lines::read_pod_line(line, &mut replies) {
+    match pod_lines::read_line(line, &mut replies) {
         PodLine::Nothing => 0,
         PodLine::Build(request) => build(request, text),
         PodLine::Read(request, count) => read(request, &replies, count, text),

@@ -1,6 +1,5 @@
 // The morning's check: P1 to P9 of document 01, which the desk checks by eye, each with what came out and whether it is what is due.
 mod listed;
-mod page;
 mod script;
 
 // P1 to P8, one bench for all; how many were good. The marks are the script's.
@@ -81,7 +80,7 @@ fn check_lines(memory: &mut [u8], text: &mut [u8]) -> u32 {
 fn check_listing(text: &mut [u8], good: u32) -> u32 {
     let mut words = [0u32; 36];
     let end = listed::put_listing(b"\x10\x50\x90\x04\x03\x02\x11\xF0\xF0", &mut words, text);
-    page::judge(
+    morning_page::judge(
         9,
         b"the trace 10 50 90 04 03 02 11 F0 F0",
         b"trace cycles=9 items=5, 0 1 0, 1 5 0, 6 9 4660, 6 1 0, 7 15 0",
@@ -95,5 +94,5 @@ fn main() {
     let mut memory = [0u8; 65552];
     let mut text = [0u8; 4096];
     let good = check_lines(&mut memory, &mut text);
-    page::write_verdict(check_listing(&mut text, good));
+    morning_page::write_verdict(check_listing(&mut text, good));
 }

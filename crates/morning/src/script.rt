@@ -1,6 +1,5 @@
 // A script of checks, its lines marked: `*` a title, which begins a check, `-` a line of the desk's language that prepares it, `+` one whose answer
 // is shown, `=` what is due. What came out is the answers shown, parted by a comma and a space.
-use crate::page;
 use answers::Bench;
 use conversation::Language;
 ghost use Prim.Native.Nat.{_≤_, _<_};
@@ -64,7 +63,14 @@ fn judge_check(script: &[u8], due: &[u8], so_far: Checked, text: &[u8]) -> Check
     if end <= script.len() {
         if from <= end {
             let title = &script[from..end];
-            let good = page::judge(so_far.number, title, due, text, so_far.came, so_far.good);
+            let good = morning_page::judge(
+                so_far.number,
+                title,
+                due,
+                text,
+                so_far.came,
+                so_far.good,
+            );
             return Checked {
                 good: good,
                 ..so_far

@@ -1,4 +1,4 @@
--- Laws of the exported functions: what they rest on is what they promise, and no second answer fits.
+-- Laws of the exported functions: what they rest on is what they promise.
 use Prim.Native.Nat.{ℕ}
 use mathlib.Core.Path.{_≡_, sym, ap, _∙_, subst₂}
 use mathlib.Core.List.{List}
@@ -12,7 +12,7 @@ use Rattle.board.specs.declared.Made.{Made}
 use Rattle.board.specs.Board.{freshBoard, freshPlace, makingVerdict, settingMade, MakingMeets}
 use Rattle.port.specs.declared.Ran.{Ran}
 use Rattle.port.specs.Run.{RunMeets}
-use Rattle.yarkovesh.specs.Exported.{verdictNumber, FreshRunMeets, ListMeets}
+use Rattle.yarkovesh.specs.Exported.{verdictNumber, FreshRunMeets}
 
 -- a run on the board that was made
 pub run-is-fresh : {w : ℕ} {m words before left out : List ℕ} {made : Made} {r : Ran} → MakingMeets w made → made .verdict ≡ Accepted
@@ -40,12 +40,3 @@ refused-is-fresh {w} {m} {words} {before} {made} {g} making refused = record {
   where
     judged : makingVerdict w ≡ Refused g
     judged = sym (told-once (made .verdict) (makingVerdict w) (making .answer)) ∙ refused
-
--- no second answer fits
-pub fresh-run-unique : {w : ℕ} {m words before : List ℕ} {r s : ℕ} {x y u v : List ℕ}
-    → FreshRunMeets w m words before r x u → FreshRunMeets w m words before s y v → (r ≡ s) × (x ≡ y) × (u ≡ v)
-fresh-run-unique f g = (f .answer ∙ sym (g .answer), f .memory ∙ sym (g .memory), f .answers ∙ sym (g .answers))
-
-pub list-unique : {trace before : List ℕ} {r s : ℕ} {x y : List ℕ}
-    → ListMeets trace before r x → ListMeets trace before s y → (r ≡ s) × (x ≡ y)
-list-unique f g = (f .answer ∙ sym (g .answer), f .words ∙ sym (g .words))

@@ -1,4 +1,4 @@
--- Laws of what programs in other languages are answered of a page: from the page's own promise, and that no second answer fits.
+-- Laws of what programs in other languages are answered of a page: from the page's own promise.
 use mathlib.Core.Path.{_≡_, ap, sym, _∙_}
 use Prim.Native.Nat.{ℕ}
 use mathlib.Core.List.{List}
@@ -32,7 +32,3 @@ module _ {trace before after : List ℕ} {page : Page} (given : Numbers) (met : 
             ap (λ (p : Page). rows (p .counts) (p .firsts) (p .lasts) (p .starts) (rateBits (p .rate))) (met .page ∙ ap (pageBy trace) e)
             ∙ sym (ap (numbersAfter trace given) (sym (met .answer) ∙ ap told e));
       }
-
-pub page-numbers-unique : {trace before x y : List ℕ} {r s : ℕ} {given u v : Numbers}
-    → PageNumbersMeet trace before r x given u → PageNumbersMeet trace before s y given v → (r ≡ s) × (x ≡ y) × (u ≡ v)
-page-numbers-unique f g = (f .answer ∙ sym (g .answer), f .index ∙ sym (g .index), f .numbers ∙ sym (g .numbers))

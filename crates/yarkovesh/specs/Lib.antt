@@ -1,4 +1,5 @@
 pub mod Exported
-pub mod ExportedLaws
 pub mod ExportedPage
+pub mod ExportedLaws
 pub mod ExportedPageLaws
+pub mod ExportedUnique

@@ -1,4 +1,4 @@
-use Rattle.answers.specs.Bench.{benchLeft, memoryLeft}
+use Rattle.answers.specs.Bench.{leaves}
 use mathlib.Core.Path.{refl}
 use borrow.Author.Needs.{needs}
 use Rattle.answers.proofs.answer_line.Statement.{statement}
@@ -71,14 +71,14 @@ put-unclear-requires : tie.Need-put-unclear-requires
 put-unclear-requires c κs = search needs
 
 returns : tie.Need-returns
-unfolding benchLeft memoryLeft
+unfolding leaves
 returns c = rw (c .enum-told .given .1) (refl, refl)
 
 same-length : tie.Need-same-length
 same-length c = search needs
 
 returns-2 : tie.Need-returns-2
-unfolding benchLeft memoryLeft
+unfolding leaves
 returns-2 c = rw (c .before .before .before .before .before .asked .given .1) (c .before .before .make .ensures, refl)
 
 same-length-2 : tie.Need-same-length-2
@@ -88,7 +88,7 @@ same-length-3 : tie.Need-same-length-3
 same-length-3 c = search needs
 
 returns-3 : tie.Need-returns-3
-unfolding benchLeft memoryLeft
+unfolding leaves
 returns-3 c = rw (c .before .before .before .before .before .before .before .before .asked2 .given .1) (c .before .before .before .before .lend .ensures)
 
 same-length-4 : tie.Need-same-length-4
@@ -98,7 +98,7 @@ same-length-5 : tie.Need-same-length-5
 same-length-5 c = search needs
 
 returns-4 : tie.Need-returns-4
-unfolding benchLeft memoryLeft
+unfolding leaves
 returns-4 c = rw (c .before .before .before .before .before .before .before .before .asked3 .given .1) (c .before .before .before .before .put-bytes .ensures)
 
 same-length-6 : tie.Need-same-length-6
@@ -108,28 +108,28 @@ same-length-7 : tie.Need-same-length-7
 same-length-7 c = search needs
 
 returns-5 : tie.Need-returns-5
-unfolding benchLeft memoryLeft
+unfolding leaves
 returns-5 c = rw (c .before .before .before .before .before .before .before .before .asked4 .given .1) (c .before .before .before .before .packet-line .ensures)
 
 same-length-8 : tie.Need-same-length-8
 same-length-8 c = search needs
 
 returns-6 : tie.Need-returns-6
-unfolding benchLeft memoryLeft
+unfolding leaves
 returns-6 c = rw (c .before .before .before .before .before .asked5 .given .1) (c .before .before .watch .ensures, refl)
 
 same-length-9 : tie.Need-same-length-9
 same-length-9 c = search needs
 
 returns-7 : tie.Need-returns-7
-unfolding benchLeft memoryLeft
+unfolding leaves
 returns-7 c = rw (c .before .before .before .before .before .before .asked6 .given .1, ← c .before .before .before .before .carrying .ensures) (c .before .before .watch2 .ensures, refl)
 
 same-length-10 : tie.Need-same-length-10
 same-length-10 c = search needs
 
 returns-8 : tie.Need-returns-8
-unfolding benchLeft memoryLeft
+unfolding leaves
 returns-8 c = rw (c .before .before .before .before .enum-told2 .given .1) (c .before .before .press .ensures, refl)
 
 same-length-11 : tie.Need-same-length-11
@@ -139,21 +139,21 @@ same-length-12 : tie.Need-same-length-12
 same-length-12 c = search needs
 
 returns-9 : tie.Need-returns-9
-unfolding benchLeft memoryLeft
+unfolding leaves
 returns-9 c = rw (c .before .before .before .before .before .before .asked7 .given .1) (c .before .before .show-bytes .ensures, refl)
 
 same-length-13 : tie.Need-same-length-13
 same-length-13 c = search needs
 
 returns-10 : tie.Need-returns-10
-unfolding benchLeft memoryLeft
+unfolding leaves
 returns-10 c = rw (c .before .before .before .before .enum-told3 .given .1) (c .before .before .tell-state .ensures, refl)
 
 same-length-14 : tie.Need-same-length-14
 same-length-14 c = search needs
 
 returns-11 : tie.Need-returns-11
-unfolding benchLeft memoryLeft
+unfolding leaves
 returns-11 c = rw (c .before .before .before .before .enum-told4 .given .1) (refl, refl)
 
 pub answer-line-spec : {M : Type 1} → statement M

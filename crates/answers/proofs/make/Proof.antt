@@ -1,3 +1,4 @@
+use mathlib.Core.Path.{_∙_}
 use Rattle.answers.specs.BenchLaws.{made-anew, kept-old}
 use borrow.Author.Needs.{needs}
 use Rattle.answers.proofs.make.Statement.{statement}
@@ -28,13 +29,15 @@ same-length : tie.Need-same-length
 same-length c = search needs
 
 returns : tie.Need-returns
-returns c = let at = c .before .before .before .before .before .before .before .before .before .before .before .before .args in let made = made-anew (at .bench .board) (at .bench .place) (c .before .before .before .before .before .before .before .before .before .before .make .ensures) (c .before .before .before .before .before .before .enum-told .given .1) in rw (← made .0, ← made .1) (c .bench-after .ensures .0)
+returns c =
+    c .bench-after .ensures .0
+    ∙ made-anew (c .before .before .before .before .before .before .before .before .before .before .before .before .args .bench) (c .before .before .before .before .before .before .before .before .before .before .make .ensures) (c .before .before .before .before .before .before .enum-told .given .1)
 
 same-length-2 : tie.Need-same-length-2
 same-length-2 c = search needs
 
 returns-2 : tie.Need-returns-2
-returns-2 c = let at = c .before .before .before .before .before .before .before .before .before .before .before .args in let kept = kept-old (at .bench .board) (at .bench .place) (c .before .before .before .before .before .before .before .before .before .make .ensures) (c .before .before .before .before .before .verdict .given .1) in rw (← kept .0, ← kept .1)
+returns-2 c = kept-old (c .before .before .before .before .before .before .before .before .before .before .before .args .bench) (c .before .before .before .before .before .before .before .before .before .make .ensures) (c .before .before .before .before .before .verdict .given .1)
 
 pub make-spec : {M : Type 1} → statement M
 make-spec =

@@ -1,5 +1,4 @@
-use Rattle.answers.specs.Bench.{benchLeft}
-use Rattle.answers.specs.BenchLaws.{lent-part}
+use Rattle.lent.specs.LentLaws.{lent-part}
 use lib.ListN.{length-take}
 use native.Mathlib.Omega.{arith}
 use borrow.Author.Needs.{needs}
@@ -25,8 +24,11 @@ same-length-2 : tie.Need-same-length-2
 same-length-2 c = search needs
 
 returns : tie.Need-returns
-unfolding benchLeft
-returns c = let at = c .before .before .before .before .before .before .before .before .before .before .args in let part = lent-part (at .bench .lent) (c .before .before .before .before .before .before .before .lent-of .result) (at .memory .now) (c .before .before .before .before .before .before .before .lent-of .ensures) in let taken = c .before .before .before .before .take-word .ensures in (rw (← part .0) (taken .0), rw (← part .0, ← part .1, taken .1))
+returns c =
+    let at = c .before .before .before .before .before .before .before .before .before .before .args in
+    let part = lent-part (at .bench .lent) (c .before .before .before .before .before .before .before .lent-of .result) (at .memory .now) (c .before .before .before .before .before .before .before .lent-of .ensures) in
+    let taken = c .before .before .before .before .take-word .ensures in
+    (rw (← part .0) (taken .0), rw (← part .0, ← part .1, taken .1))
 
 pub packet-line-spec : {M : Type 1} → statement M
 packet-line-spec =

@@ -1,3 +1,4 @@
+use Rattle.answers.specs.BenchLaws.{part-by-part}
 use borrow.Author.Needs.{needs}
 use Rattle.answers.proofs.take_word.Statement.{statement}
 use Rattle.answers.proofs.take_word.Tie as tie
@@ -18,7 +19,7 @@ same-length-2 : tie.Need-same-length-2
 same-length-2 c = search needs
 
 returns : tie.Need-returns
-returns c = let taken = c .before .before .before .before .before .before .before .before .before .take-packet .ensures in (rw (← taken .board, ← taken .place) (c .bench-after .ensures .0), taken .memory)
+returns c = let taken = c .before .before .before .before .before .before .before .before .before .take-packet .ensures in (rw (part-by-part, ← taken .board, ← taken .place) (c .bench-after .ensures .0), rw (part-by-part) (taken .memory))
 
 pub take-word-spec : {M : Type 1} → statement M
 take-word-spec =

@@ -1,4 +1,4 @@
-use Rattle.conversation.specs.Heard.{benchAfter, memoryAfter}
+use Rattle.conversation.specs.Heard.{after}
 use mathlib.Core.Path.{refl}
 use borrow.Author.Needs.{needs}
 use Rattle.conversation.proofs.answer.Statement.{statement}
@@ -32,7 +32,7 @@ same-length-3 : tie.Need-same-length-3
 same-length-3 c = search needs
 
 returns-2 : tie.Need-returns-2
-unfolding benchAfter memoryAfter
+unfolding after
 returns-2 c = rw (← c .before .before .before .before .before .before .hear .ensures, c .before .before .before .before .enum-told .given .1) (refl, refl)
 
 pub answer-spec : {M : Type 1} → statement M

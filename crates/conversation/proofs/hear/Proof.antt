@@ -6,8 +6,8 @@ use Rattle.conversation.proofs.hear.Tie as tie
 enum-told : tie.Need-enum-told
 enum-told c = search needs
 
-read-stand-in-line-requires : tie.Need-read-stand-in-line-requires
-read-stand-in-line-requires c κs = search needs
+read-line-requires : tie.Need-read-line-requires
+read-line-requires c κs = search needs
 
 enum-told-2 : tie.Need-enum-told-2
 enum-told-2 c = search needs
@@ -26,7 +26,7 @@ enum-told-4 c = search needs
 
 returns : tie.Need-returns
 unfolding heard
-returns c = rw (c .before .enum-told .given .1, c .read-stand-in-line .ensures)
+returns c = rw (c .before .enum-told .given .1, c .read-line .ensures)
 
 returns-2 : tie.Need-returns-2
 unfolding heard
@@ -45,7 +45,7 @@ hear-spec =
     tie.close
     (tie.spec
     enum-told
-    read-stand-in-line-requires
+    read-line-requires
     enum-told-2
     read-talk-line-requires
     enum-told-3

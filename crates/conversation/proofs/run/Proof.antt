@@ -51,7 +51,13 @@ loop-less : tie.Need-loop-less Inv-loop μ-loop
 loop-less c = omega (arith, c .before .before .before .before .before .before .before .before .before .before .before .before .before .before .before .before .before .before .before .loop-test .taken)
 
 loop-again : tie.Need-loop-again Inv-loop μ-loop
-loop-again c = let same = c .before .before .before .before .before .before .before .before .before .before .before .before .before .before .before .before .before .before .before .before .loop .inv in (c .before .before .before .before .before .before .before .before .before .before .before .before .before .before .before .before .next-line .kept .0 ∙ same .0, c .before .before .before .before .before .before .before .before .before .before .before .before .before .before .before .before .next-line .kept .1 .1 .0 ∙ same .1, c .before .before .before .before .serve-front .kept .1 .1 .1 .1 .1 .0 ∙ same .2, c .before .before .before .before .serve-front .kept .1 .1 .1 .1 .0 ∙ same .3)
+loop-again c =
+    let same = c .before .before .before .before .before .before .before .before .before .before .before .before .before .before .before .before .before .before .before .before .loop .inv in (
+      c .before .before .before .before .before .before .before .before .before .before .before .before .before .before .before .before .next-line .kept .0 ∙ same .0,
+      c .before .before .before .before .before .before .before .before .before .before .before .before .before .before .before .before .next-line .kept .1 .1 .0 ∙ same .1,
+      c .before .before .before .before .serve-front .kept .1 .1 .1 .1 .1 .0 ∙ same .2,
+      c .before .before .before .before .serve-front .kept .1 .1 .1 .1 .0 ∙ same .3,
+    )
 
 same-length-5 : tie.Need-same-length-5 Inv-loop μ-loop
 same-length-5 c = search needs

@@ -28,7 +28,9 @@ same-length-2 : tie.Need-same-length-2
 same-length-2 c = search needs
 
 returns : tie.Need-returns
-returns c = rw (c .number-of .ensures) (run-is-fresh (c .before .before .before .before .before .before .before .before .before .before .before .before .make .ensures) (c .before .before .before .before .before .before .before .before .enum-told .given .1) (c .before .before .before .before .before .take-packets .ensures))
+returns c =
+    rw (c .number-of .ensures)
+    (run-is-fresh (c .before .before .before .before .before .before .before .before .before .before .before .before .make .ensures) (c .before .before .before .before .before .before .before .before .enum-told .given .1) (c .before .before .before .before .before .take-packets .ensures))
 
 returns-2 : tie.Need-returns-2
 returns-2 c = rw (c .number-of2 .ensures) (refused-is-fresh (c .before .before .before .before .before .before .make .ensures) (c .before .before .verdict .given .1))

@@ -1,0 +1,33 @@
+use Rattle.answers.specs.BenchLaws.{part-by-part}
+use borrow.Author.Needs.{needs}
+use Rattle.asking.proofs.converse.Statement.{statement}
+use Rattle.asking.proofs.converse.Tie as tie
+
+exchange-requires : tie.Need-exchange-requires
+exchange-requires c κs = search needs
+
+put-exchanged-requires : tie.Need-put-exchanged-requires
+put-exchanged-requires c κs = search needs
+
+bench-after-requires : tie.Need-bench-after-requires
+bench-after-requires c κs = search needs
+
+same-length : tie.Need-same-length
+same-length c = search needs
+
+same-length-2 : tie.Need-same-length-2
+same-length-2 c = search needs
+
+returns : tie.Need-returns
+returns c = let taken = c .before .before .before .before .before .before .before .before .before .exchange .ensures in (rw (part-by-part, ← taken .board, ← taken .place) (c .bench-after .ensures .0), rw (part-by-part) (taken .memory))
+
+pub converse-spec : {M : Type 1} → statement M
+converse-spec =
+    tie.close
+    (tie.spec
+    exchange-requires
+    put-exchanged-requires
+    bench-after-requires
+    same-length
+    same-length-2
+    returns)

@@ -1,0 +1,40 @@
+// A request asked of the bench: sent, and its replies read (the desk's language, `talk`).
+ghost use mathlib.Core.Path.{_≡_};
+ghost use Rattle.answers.specs.Bench.{overLent};
+ghost use Rattle.asking.specs.Asking.{exchanged};
+use answers::Answered;
+use answers::Bench;
+use exchange::Exchanged;
+use requests::Request;
+use text::request::put_exchange;
+use text::request::put_refusal;
+
+fn put_exchanged(text: &mut [u8], answer: Exchanged) -> usize {
+    match answer {
+        Exchanged::Ended(outcome, packets) => put_exchange(text, outcome, packets),
+        Exchanged::Refused(ground) => put_refusal(text, ground),
+    }
+}
+
+fn converse(request: Request, bench: Bench, memory: &mut [u8], text: &mut [u8]) -> Answered
+    ensures { λ r. ⌜ (r .bench ≡ exchanged request bench (now (memory .entry)) .bench)
+        × (now (memory .exit) ≡ exchanged request bench (now (memory .entry)) .memory) ⌝ }
+{
+    let board = bench.board;
+    let place = bench.place;
+    let returned = exchange::exchange(request, board, place, memory);
+    let answer = returned.answer;
+    let board_next = returned.board;
+    let place_next = returned.place;
+    let end = put_exchanged(text, answer);
+    answers::bench_after(board_next, place_next, bench.lent, end)
+}
+
+// The exchange over the bytes lent, of those that there are.
+pub fn ask(request: Request, bench: Bench, memory: &mut [u8], text: &mut [u8]) -> Answered
+    ensures { λ r. ⌜ (r .bench ≡ overLent (exchanged request) bench (now (memory .entry)) .bench)
+        × (now (memory .exit) ≡ overLent (exchanged request) bench (now (memory .entry)) .memory) ⌝ }
+{
+    let n = lent::lent_of(bench.lent, memory.len());
+    converse(request, bench, &mut memory[..n], text)
+}

@@ -1,0 +1,77 @@
+use native.Mathlib.Omega.{arith}
+use Rattle.words.specs.LineWordLaws.{word-from, word-end-bound}
+use Rattle.board_lines.specs.BoardLines.{boardWords}
+use borrow.Author.Needs.{needs}
+use Rattle.board_lines.proofs.read_words.Statement.{statement}
+use Rattle.board_lines.proofs.read_words.Tie as tie
+
+word-end-requires : tie.Need-word-end-requires
+word-end-requires c κs = search needs
+
+sub-is-same : tie.Need-sub-is-same
+sub-is-same c = search needs
+
+part-is-same-start : tie.Need-part-is-same-start
+part-is-same-start c = search needs
+
+part-is-same-end : tie.Need-part-is-same-end
+part-is-same-end c = word-end-bound (c .before .before .args .line .now) 0 (c .word-end .result) (omega arith) (c .word-end .ensures)
+
+slice-aggregate-is-same : tie.Need-slice-aggregate-is-same
+slice-aggregate-is-same c = search needs
+
+is-same-requires : tie.Need-is-same-requires
+is-same-requires c κs = search needs
+
+bytes-line-requires : tie.Need-bytes-line-requires
+bytes-line-requires c κs = search needs
+
+returns : tie.Need-returns
+unfolding boardWords
+returns c =
+    let line = c .before .before .before .before .before .before .before .args .line .now in
+    let stop = c .before .before .before .before .before .word-end .result in
+    let cut = word-from line 0 stop (omega arith) (c .before .before .before .before .before .word-end .ensures) in
+    rw (cut, ← c .before .before .is-same .ensures, c .before .if1 .taken, ← c .bytes-line .ensures)
+
+read-numbers-requires : tie.Need-read-numbers-requires
+read-numbers-requires c κs = search needs
+
+sub-read-form : tie.Need-sub-read-form
+sub-read-form c = search needs
+
+part-read-form-start : tie.Need-part-read-form-start
+part-read-form-start c = search needs
+
+part-read-form-end : tie.Need-part-read-form-end
+part-read-form-end c = word-end-bound (c .before .before .before .before .before .before .before .args .line .now) 0 (c .before .before .before .before .before .word-end .result) (omega arith) (c .before .before .before .before .before .word-end .ensures)
+
+read-form-requires : tie.Need-read-form-requires
+read-form-requires c κs = search needs
+
+returns-2 : tie.Need-returns-2
+unfolding boardWords
+returns-2 c =
+    let line = c .before .before .before .before .before .before .before .before .before .args .line .now in
+    let stop = c .before .before .before .before .before .before .before .word-end .result in
+    let cut = word-from line 0 stop (omega arith) (c .before .before .before .before .before .before .before .word-end .ensures) in
+    rw (cut, ← c .before .before .before .before .is-same .ensures, c .before .before .before .if1 .left, ← c .before .before .read-numbers .ensures, ← c .read-form .ensures)
+
+pub read-words-spec : {M : Type 1} → statement M
+read-words-spec =
+    tie.close
+    (tie.spec
+    word-end-requires
+    sub-is-same
+    part-is-same-start
+    part-is-same-end
+    slice-aggregate-is-same
+    is-same-requires
+    bytes-line-requires
+    returns
+    read-numbers-requires
+    sub-read-form
+    part-read-form-start
+    part-read-form-end
+    read-form-requires
+    returns-2)

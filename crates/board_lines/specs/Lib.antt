@@ -1,0 +1,3 @@
+pub mod BoardLines
+pub mod BoardLinesUnique
+pub mod BoardLineExamples

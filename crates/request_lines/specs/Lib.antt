@@ -1,0 +1,2 @@
+pub mod RequestLines
+pub mod RequestLineLaws

@@ -1,0 +1,4 @@
+pub mod TalkLines
+pub mod TalkLineLaws
+pub mod TalkLinesUnique
+pub mod TalkLineExamples
