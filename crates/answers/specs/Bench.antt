@@ -6,7 +6,10 @@ use lib.Seq.{sets}
 use Rattle.board.specs.declared.Board.{Board}
 use Rattle.board.specs.declared.Place.{Place}
 use Rattle.board.specs.Board.{freshBoard, freshPlace, makingVerdict}
-use Rattle.port.specs.Packets.{packetVerdict, boardNext, placeNext, memoryNext, unless}
+use Rattle.grounds.specs.Grounds.{ifAccepted}
+use Rattle.board.specs.State.{State as PortState, stateOf}
+use Rattle.step.specs.Step as port
+use Rattle.port.specs.Packet.{packetVerdict}
 use Rattle.trigger.specs.declared.Event.{Event}
 use Rattle.groups.specs.declared.Bus.the-variants.{Idle, Carries}
 use Rattle.bus.specs.Events.{boardAfterEvent, boardAfterBreakpoint}
@@ -32,15 +35,17 @@ abbrev pub overLent : (Bench → List ℕ → Left) → Bench → List ℕ → L
 overLent step bench m =
     left (step bench (take (bench .lent) m) .bench) (step bench (take (bench .lent) m) .memory ++ drop (bench .lent) m)
 
+-- the port's state at the bench over what it is lent, and the bench with another
+abbrev pub portState : Bench → List ℕ → PortState
+portState bench m = stateOf (bench .board) (bench .place) m
+
+abbrev pub withState : Bench → PortState → Left
+withState bench s = left (benchOf (s .board) (s .place) (bench .lent)) (s .memory)
+
 -- a packet's step on what the port is lent; all as it was where the packet is refused
 abbrev pub stepped : ℕ → Bench → List ℕ → Left
 stepped word bench m =
-    unless
-    (packetVerdict (bench .board) (bench .place) m word)
-    (left
-    (benchOf (boardNext (bench .board) (bench .place) word) (placeNext (bench .board) (bench .place) m word) (bench .lent))
-    (memoryNext (bench .board) (bench .place) m word))
-    (left bench m)
+    withState bench (ifAccepted (packetVerdict (portState bench m) word) (port.stepped (portState bench m) word) (portState bench m))
 
 -- "`event PC` or `event PC ADDRESS ATTRIBUTE DATA`"
 abbrev pub start : ℕ → Event
@@ -56,7 +61,7 @@ seen event bench = benchOf (boardAfterEvent (bench .board) (bench .place) event)
 -- `memory`: "N zero bytes are lent from now on"
 unfoldable pub leaves : List ℕ → BoardLine → Bench → List ℕ → Left
 leaves line Nothing bench m = left bench m
-leaves line (Make w) bench m = left (unless (makingVerdict w) (benchOf (freshBoard w) freshPlace (bench .lent)) bench) m
+leaves line (Make w) bench m = left (ifAccepted (makingVerdict w) (benchOf (freshBoard w) freshPlace (bench .lent)) bench) m
 leaves line (Memory n) bench m = left (benchOf (bench .board) (bench .place) n) (sets m 0 (zeros n))
 leaves line (Bytes address from count) bench m = left bench (bytesPut line from count address (bench .lent) m)
 leaves line (Packet word) bench m = overLent (stepped word) bench m

@@ -1,20 +1,18 @@
--- Laws of the bench: what making leaves is what the line says, and what a verdict leaves, part by part.
+-- Laws of the bench: what making leaves is what the line says.
 use Prim.Native.Nat.{ℕ}
-use mathlib.Core.Path.{_≡_, refl, sym, _∙_}
-use mathlib.Core.List.{List, []}
+use mathlib.Core.Path.{_≡_, sym, _∙_}
+use mathlib.Core.List.{[]}
 use lib.Dec.{leb}
 use Rattle.grounds.specs.declared.Ground.{Ground}
 use Rattle.grounds.specs.declared.Ground.the-variants.{WaitTooLarge}
 use Rattle.grounds.specs.declared.Verdict.{Verdict}
 use Rattle.grounds.specs.declared.Verdict.the-variants.{Accepted, Refused}
 use Rattle.grounds.specs.GroundLaws.{told-once, accepted-holds}
-use Rattle.board.specs.declared.Board.{Board}
-use Rattle.board.specs.declared.Place.{Place}
 use Rattle.board.specs.declared.Made.{Made}
 use Rattle.board.specs.Board.{freshBoard, freshPlace, makingVerdict, settingMade, MakingMeets}
-use Rattle.port.specs.Packets.{unless}
+use Rattle.grounds.specs.Grounds.{ifAccepted}
 use Rattle.answers.specs.declared.Bench.{Bench}
-use Rattle.answers.specs.Bench.{benchOf, left}
+use Rattle.answers.specs.Bench.{benchOf}
 
 -- a board that is made has the setting asked for
 setting-asked : (w : ℕ) → makingVerdict w ≡ Accepted → settingMade w ≡ w
@@ -24,16 +22,9 @@ judged : {w : ℕ} {made : Made} {v : Verdict} → MakingMeets w made → made .
 judged {w} {made} making e = sym (told-once (made .verdict) (makingVerdict w) (making .answer)) ∙ e
 
 pub made-anew : {w : ℕ} {made : Made} (bench : Bench) → MakingMeets w made → made .verdict ≡ Accepted
-    → benchOf (made .board) (made .place) (bench .lent) ≡ unless (makingVerdict w) (benchOf (freshBoard w) freshPlace (bench .lent)) bench
+    → benchOf (made .board) (made .place) (bench .lent) ≡ ifAccepted (makingVerdict w) (benchOf (freshBoard w) freshPlace (bench .lent)) bench
 made-anew {w} bench making e = let accepted = judged making e in rw (accepted, making .board, making .place, setting-asked w accepted)
 
 pub kept-old : {w : ℕ} {made : Made} {g : Ground} (bench : Bench) → MakingMeets w made → made .verdict ≡ Refused g
-    → bench ≡ unless (makingVerdict w) (benchOf (freshBoard w) freshPlace (bench .lent)) bench
+    → bench ≡ ifAccepted (makingVerdict w) (benchOf (freshBoard w) freshPlace (bench .lent)) bench
 kept-old bench making e = let refused = judged making e in rw refused
-
--- what a verdict leaves, part by part
-pub part-by-part : (v : Verdict) (b : Board) (p : Place) (m : List ℕ) (bench : Bench) (given : List ℕ)
-    → unless v (left (benchOf b p (bench .lent)) m) (left bench given)
-    ≡ left (benchOf (unless v b (bench .board)) (unless v p (bench .place)) (bench .lent)) (unless v m given)
-part-by-part Accepted b p m bench given = refl
-part-by-part (Refused g) b p m bench given = refl

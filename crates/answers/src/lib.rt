@@ -11,7 +11,7 @@ use trigger::Event;
 ghost use mathlib.Core.Path.{_≡_};
 ghost use lib.Seq.{sets};
 ghost use Rattle.board.specs.Board.{freshBoard, freshPlace, makingVerdict};
-ghost use Rattle.port.specs.Packets.{unless};
+ghost use Rattle.grounds.specs.Grounds.{ifAccepted};
 ghost use Rattle.bus.specs.Events.{boardAfterEvent, boardAfterBreakpoint};
 ghost use Rattle.lent.specs.Lent.{zeros, bytesPut};
 ghost use Rattle.answers.specs.Bench.{access, benchOf, stepped, overLent, leaves};
@@ -58,7 +58,7 @@ pub fn bench_after(board: Board, place: Place, lent: usize, end: usize) -> Answe
 }
 
 fn make(w: u32, bench: Bench, text: &mut [u8]) -> Answered
-    ensures { λ r. ⌜ r .bench ≡ unless (makingVerdict w) (benchOf (freshBoard w) freshPlace (bench .lent)) bench ⌝ }
+    ensures { λ r. ⌜ r .bench ≡ ifAccepted (makingVerdict w) (benchOf (freshBoard w) freshPlace (bench .lent)) bench ⌝ }
 {
     let made = board::make(w);
     let verdict = made.verdict;

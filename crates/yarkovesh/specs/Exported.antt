@@ -5,10 +5,10 @@ use mathlib.Core.List.{List, _++_}
 use lib.ListN.{length, drop}
 use Rattle.grounds.specs.declared.Verdict.{Verdict}
 use Rattle.grounds.specs.declared.Verdict.the-variants.{Accepted, Refused}
-use Rattle.grounds.specs.Grounds.{told}
+use Rattle.grounds.specs.Grounds.{told, ifAccepted}
 use Rattle.board.specs.Board.{freshBoard, freshPlace, makingVerdict, settingMade}
-use Rattle.port.specs.Packets.{unless}
-use Rattle.port.specs.Run.{State, stateOf, ran, replies, runVerdict}
+use Rattle.board.specs.State.{State, stateOf}
+use Rattle.run.specs.Run.{ran, replies, runVerdict}
 use Rattle.trace.specs.TraceReading.{Told, refusal, counted}
 use Rattle.listing.specs.Listing.{listing, wordsAfter}
 
@@ -25,13 +25,13 @@ madeFirst Accepted run = run
 madeFirst (Refused ground) run = Refused ground
 
 abbrev pub freshVerdict : ℕ → List ℕ → List ℕ → ℕ → Verdict
-freshVerdict w m words room = madeFirst (makingVerdict w) (runVerdict (freshBoard (settingMade w)) freshPlace m words room)
+freshVerdict w m words room = madeFirst (makingVerdict w) (runVerdict (fresh w m) words room)
 
 -- the promise of a run on a fresh board of wait setting w
 pub record FreshRunMeets (w : ℕ) (m words before : List ℕ) (r : ℕ) (left out : List ℕ) : Type 0 where
   pub answer : r ≡ verdictNumber (freshVerdict w m words (length before))
-  pub memory : left ≡ unless (freshVerdict w m words (length before)) (ran words (fresh w m) .memory) m
-  pub answers : out ≡ unless (freshVerdict w m words (length before)) (replies words (fresh w m) ++ drop (length words) before) before
+  pub memory : left ≡ ifAccepted (freshVerdict w m words (length before)) (ran words (fresh w m) .memory) m
+  pub answers : out ≡ ifAccepted (freshVerdict w m words (length before)) (replies words (fresh w m) ++ drop (length words) before) before
 
 -- the number of items; or the ground's number in the upper 32 bits, and the cycle in the lower
 abbrev pub listingNumber : Told → ℕ

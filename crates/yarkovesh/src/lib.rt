@@ -43,7 +43,7 @@ pub extern "C" fn yarkovesh_run(
     let place = made.place;
     match verdict {
         Verdict::Accepted => {
-            let ran = port::take_packets(board, place, memory, words, replies);
+            let ran = run::take_packets(board, place, memory, words, replies);
             let run_verdict = ran.verdict;
             number_of(run_verdict)
         }

@@ -1,4 +1,6 @@
-use Rattle.answers.specs.BenchLaws.{part-by-part}
+use mathlib.Core.Path.{ap, _∙_}
+use Rattle.board.specs.State.{State}
+use Rattle.answers.specs.Bench.{withState}
 use borrow.Author.Needs.{needs}
 use Rattle.asking.proofs.converse.Statement.{statement}
 use Rattle.asking.proofs.converse.Tie as tie
@@ -19,7 +21,10 @@ same-length-2 : tie.Need-same-length-2
 same-length-2 c = search needs
 
 returns : tie.Need-returns
-returns c = let taken = c .before .before .before .before .before .before .before .before .before .exchange .ensures in (rw (part-by-part, ← taken .board, ← taken .place) (c .bench-after .ensures .0), rw (part-by-part) (taken .memory))
+returns c =
+    let taken = c .before .before .before .before .before .before .before .before .before .exchange .ensures in
+    let bench = c .before .before .before .before .before .before .before .before .before .before .before .before .before .before .before .args .bench in
+    (c .bench-after .ensures .0 ∙ ap (λ (s : State). withState bench s .bench) (taken .state), ap (λ (s : State). s .memory) (taken .state))
 
 pub converse-spec : {M : Type 1} → statement M
 converse-spec =
