@@ -7,7 +7,7 @@ use Rattle.grounds.specs.declared.Ground.{Ground}
 use Rattle.grounds.specs.declared.Ground.the-variants.{WaitTooLarge}
 use Rattle.grounds.specs.declared.Verdict.{Verdict}
 use Rattle.grounds.specs.declared.Verdict.the-variants.{Accepted, Refused}
-use Rattle.grounds.specs.GroundLaws.{told-once, accepted-holds}
+use Rattle.grounds.specs.GroundLaws.{told-unique, accepted-holds}
 use Rattle.board.specs.declared.Made.{Made}
 use Rattle.board.specs.Board.{freshBoard, freshPlace, makingVerdict, settingMade, MakingMeets}
 use Rattle.grounds.specs.Grounds.{ifAccepted}
@@ -19,7 +19,7 @@ setting-asked : (w : ℕ) → makingVerdict w ≡ Accepted → settingMade w ≡
 setting-asked w e = rw (accepted-holds (leb w 15) WaitTooLarge [] e .0)
 
 judged : {w : ℕ} {made : Made} {v : Verdict} → MakingMeets w made → made .verdict ≡ v → makingVerdict w ≡ v
-judged {w} {made} making e = sym (told-once (made .verdict) (makingVerdict w) (making .answer)) ∙ e
+judged {w} {made} making e = sym (told-unique (made .verdict) (makingVerdict w) (making .answer)) ∙ e
 
 pub made-anew : {w : ℕ} {made : Made} (bench : Bench) → MakingMeets w made → made .verdict ≡ Accepted
     → benchOf (made .board) (made .place) (bench .lent) ≡ ifAccepted (makingVerdict w) (benchOf (freshBoard w) freshPlace (bench .lent)) bench

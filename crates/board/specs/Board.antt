@@ -13,7 +13,7 @@ use Rattle.board.specs.declared.Board.{Board}
 use Rattle.board.specs.declared.Place.{Place}
 use Rattle.board.specs.declared.Made.{Made}
 use Rattle.board.specs.declared.Phase.{Phase}
-use Rattle.board.specs.declared.Phase.the-variants.{Rest, Due, Waiting, Low}
+use Rattle.board.specs.declared.Phase.the-variants.{Rest, Due, Waiting, Upper}
 use Rattle.board.specs.declared.Chain.the-variants.{Off}
 
 -- "A fresh board is halted with CSR[BKPT] set, at rest, next reply 0x0FFFF, AATR 0x0005, BAAR 0x05, all else zero"
@@ -33,7 +33,7 @@ abbrev pub atRest : Phase → Bool
 atRest Rest = true
 atRest (Due c left taken) = false
 atRest (Waiting c left address value) = false
-atRest (Low low) = false
+atRest (Upper low) = false
 
 -- "A board is made with a wait setting W from 0 to 15." "Order: making 2"
 abbrev pub makingVerdict : ℕ → Verdict

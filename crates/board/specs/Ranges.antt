@@ -6,14 +6,14 @@ use Rattle.command.specs.Command.{operandWords, waits}
 use Rattle.board.specs.declared.Board.{Board}
 use Rattle.board.specs.declared.Place.{Place}
 use Rattle.board.specs.declared.Phase.{Phase}
-use Rattle.board.specs.declared.Phase.the-variants.{Rest, Due, Waiting, Low}
+use Rattle.board.specs.declared.Phase.the-variants.{Rest, Due, Waiting, Upper}
 
 -- "while waiting, waits left 1 to W and a command that waits; operands left at least 1 and no more than the command has"
 abbrev pub phaseInRange : ℕ → Phase → Bool
 phaseInRange w Rest = true
 phaseInRange w (Due c left taken) = leb 1 left && leb left (operandWords c)
 phaseInRange w (Waiting c left a d) = leb 1 left && leb left w && waits c
-phaseInRange w (Low low) = true
+phaseInRange w (Upper low) = true
 
 -- "BSTAT one of 0, 1, 2, 5, 6"
 unfoldable pub bstatInRange : ℕ → Bool

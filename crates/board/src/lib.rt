@@ -63,7 +63,7 @@ pub enum Phase {
     // The command, the packets still to wait, the address and the data.
     Waiting(Command, u32, u32, u32),
     // The upper result word is the next reply; the low one is held.
-    Low(u16),
+    Upper(u16),
 }
 
 pub enum Chain {
@@ -187,7 +187,7 @@ fn is_phase_in_range(phase: Phase, w: u32) -> bool
             }
             false
         }
-        Phase::Low(_) => true,
+        Phase::Upper(_) => true,
     }
 }
 

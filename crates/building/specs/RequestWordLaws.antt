@@ -6,7 +6,7 @@ use mathlib.Core.Bool.{true}
 use mathlib.Core.List.{List, [], _∷_, _++_}
 use lib.ListN.{length}
 use borrow.Author.Tests.{leb-true}
-use Rattle.laws.specs.Tests.{both-hold}
+use Rattle.laws.specs.TestLaws.{both-hold}
 use Rattle.memory.specs.declared.Size.{Size}
 use Rattle.memory.specs.declared.Size.the-variants.{Byte, Word, Long}
 use Rattle.command.specs.Command.{sizeWords}

@@ -3,7 +3,7 @@ use Prim.Native.Nat.{ℕ}
 use mathlib.Core.Path.{_≡_, refl}
 use mathlib.Core.Bool.{Bool, true, false, cond}
 use lib.Dec.{eqb, leb}
-use Rattle.laws.specs.Tests.{both-hold}
+use Rattle.laws.specs.TestLaws.{both-hold}
 use Rattle.grounds.specs.declared.Ground.{Ground}
 use Rattle.grounds.specs.declared.Verdict.{Verdict}
 use Rattle.grounds.specs.declared.Verdict.the-variants.{Accepted, Refused}

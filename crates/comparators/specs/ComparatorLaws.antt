@@ -7,7 +7,7 @@ use lib.Bits.{bitOr, or-lt, and-le-l}
 use native.Mathlib.Nat.{max-eq-left, max-eq-right}
 use borrow.Author.Tests.{eqb-true, eqb-false, eq-eqb, ne-eqb, not-false}
 use native.Mathlib.Omega.{arith}
-use Rattle.laws.specs.Tests.{by-test}
+use Rattle.laws.specs.TestLaws.{by-test}
 use Rattle.board.specs.declared.Debug.{Debug}
 use Rattle.comparators.specs.declared.BusAccess.{BusAccess}
 use Rattle.comparators.specs.Masks.{bit}

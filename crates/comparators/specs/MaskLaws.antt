@@ -7,7 +7,7 @@ use lib.Bits.{bitOr, or-step, or-shr}
 use borrow.Author.Tests.{eqb-true, eqb-false, eq-eqb}
 use native.Mathlib.Nat.{max-zero, max-le, max-eq-right, div-div-eq-div-mul, pow-succ'}
 use native.Mathlib.Omega.{arith}
-use Rattle.laws.specs.Tests.{by-test}
+use Rattle.laws.specs.TestLaws.{by-test}
 use Rattle.comparators.specs.Masks.{bit, agree}
 
 or-low : (a m : ℕ) → bitOr a m % 2 ≡ max (a % 2) (m % 2)

@@ -3,7 +3,7 @@ use Prim.Native.Nat.{ℕ, _^_, _<_}
 use Rattle.grounds.specs.declared.Ground.the-variants.{ImpossibleReply}
 use Rattle.memory.specs.MemoryLaws.{AllBelow}
 use Rattle.board.specs.declared.Phase.{Phase}
-use Rattle.board.specs.declared.Phase.the-variants.{Rest, Due, Waiting, Low}
+use Rattle.board.specs.declared.Phase.the-variants.{Rest, Due, Waiting, Upper}
 use Rattle.board.specs.State.{State}
 use Rattle.sound.specs.Sound.{DebugWithin, OperandsWithin}
 use Rattle.readings.specs.declared.Reader.{Reader}
@@ -23,7 +23,7 @@ abbrev pub PhaseTyped : Phase → Type 0
 PhaseTyped Rest = Unit {0}
 PhaseTyped (Due c left t) = OperandsWithin t
 PhaseTyped (Waiting c left address value) = (address < 2 ^ 32) × (value < 2 ^ 32)
-PhaseTyped (Low low) = low < 2 ^ 16
+PhaseTyped (Upper low) = low < 2 ^ 16
 
 pub record Typed (s : State) : Type 0 where
   pub general : AllBelow (2 ^ 32) (s .board .registers .general)

@@ -5,10 +5,10 @@ use mathlib.Core.Bool.{Bool, true, _&&_}
 use lib.Dec.{leb}
 use lib.ListN.{length}
 use borrow.Author.Tests.{leb-true}
-use Rattle.laws.specs.Tests.{both-hold}
+use Rattle.laws.specs.TestLaws.{both-hold}
 use Rattle.command.specs.Command.{operandWords, waits}
 use Rattle.board.specs.declared.Phase.{Phase}
-use Rattle.board.specs.declared.Phase.the-variants.{Rest, Due, Waiting, Low}
+use Rattle.board.specs.declared.Phase.the-variants.{Rest, Due, Waiting, Upper}
 use Rattle.board.specs.Ranges.{phaseInRange, bstatInRange, boardInRange, placeInRange, inRange}
 use Rattle.board.specs.State.{State}
 use Rattle.sound.specs.Sound.{PhaseWithin, Sound}
@@ -22,7 +22,7 @@ phase-fits w (Waiting c left a v) h t =
     let waiting = both-hold (leb 1 left && leb left w) (waits c) h in
     let lefts = both-hold (leb 1 left) (leb left w) (waiting .0) in
     (leb-true 1 left (lefts .0), leb-true left w (lefts .1), waiting .1, t .0, t .1)
-phase-fits w (Low low) h t = t
+phase-fits w (Upper low) h t = t
 
 pub typed-is-sound : {s : State} → Typed s → inRange (s .board) (s .place) ≡ true → length (s .memory) ≤ 65536 → Sound s
 unfolding inRange

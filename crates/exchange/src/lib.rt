@@ -69,7 +69,7 @@ fn note_phase(phase: Phase)
         Phase::Rest => {}
         Phase::Due(_, _, _) => {}
         Phase::Waiting(_, _, _, _) => {}
-        Phase::Low(_) => {}
+        Phase::Upper(_) => {}
     }
 }
 

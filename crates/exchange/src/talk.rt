@@ -72,7 +72,7 @@ fn is_resting(place: Place) -> bool
         Phase::Rest => true,
         Phase::Due(_, _, _) => false,
         Phase::Waiting(_, _, _, _) => false,
-        Phase::Low(_) => false,
+        Phase::Upper(_) => false,
     }
 }
 

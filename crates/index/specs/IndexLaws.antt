@@ -12,7 +12,7 @@ use borrow.Author.Tests.{eqb-true, eqb-false}
 use Rattle.cycle.specs.declared.Carried.{Carried}
 use Rattle.cycle.specs.Cycle.{carriedInto}
 use Rattle.trace.specs.Items.{itemsBefore}
-use Rattle.laws.specs.Stores.{sets-append}
+use Rattle.laws.specs.StoreLaws.{sets-append}
 use Rattle.index.specs.Entry.{entryAt, entryWord, ofWord}
 use Rattle.index.specs.RangeLaws.{Bytes}
 use Rattle.index.specs.EntryWordLaws.{entry-read-back}

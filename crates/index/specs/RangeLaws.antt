@@ -7,7 +7,7 @@ use native.Mathlib.Omega.{arith}
 use lib.Dec.{ltb}
 use lib.ListN.{getD}
 use borrow.Author.Tests.{ltb-true}
-use Rattle.laws.specs.Tests.{either}
+use Rattle.laws.specs.TestLaws.{either}
 use Rattle.cycle.specs.Cycle.{pst, marker, nibbles, after, carriedInto}
 
 -- a marker is 11 at most

@@ -1,2 +1,2 @@
-pub mod Tests
-pub mod Stores
+pub mod TestLaws
+pub mod StoreLaws

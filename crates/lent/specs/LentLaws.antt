@@ -9,7 +9,7 @@ use borrow.Author.Tests.{leb-true, leb-false, le-leb, lt-leb}
 use lib.Dec.{leb}
 use lib.ListN.{length, set, take, drop, drop-of-length-le}
 use lib.Seq.{take-all, sets}
-use Rattle.laws.specs.Tests.{by-test}
+use Rattle.laws.specs.TestLaws.{by-test}
 use Rattle.numbers.specs.Numbers.{byteAt}
 use Rattle.lent.specs.Lent.{listed, fits}
 

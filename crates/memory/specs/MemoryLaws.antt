@@ -3,7 +3,7 @@ use Prim.Native.Nat.{ℕ, zero, suc, _+_, _/_, _%_, _<_}
 use native.Mathlib.Omega.{arith}
 use mathlib.Core.Path.{_≡_, refl}
 use mathlib.Core.List.{List, [], _∷_}
-use Rattle.laws.specs.Tests.{either}
+use Rattle.laws.specs.TestLaws.{either}
 use lib.ListN.{length, getD, set, length-set}
 use Rattle.memory.specs.declared.Size.{Size}
 use Rattle.memory.specs.declared.Size.the-variants.{Byte, Word, Long}

@@ -8,7 +8,7 @@ use Rattle.command.specs.declared.Base.the-variants.{Address, Pointer}
 use Rattle.command.specs.Command.{decoded, operandWords, haltedOnly, waits}
 use Rattle.board.specs.declared.Operands.{Operands}
 use Rattle.board.specs.declared.Phase.{Phase}
-use Rattle.board.specs.declared.Phase.the-variants.{Rest, Due, Waiting, Low}
+use Rattle.board.specs.declared.Phase.the-variants.{Rest, Due, Waiting, Upper}
 use Rattle.board.specs.declared.Chain.{Chain}
 use Rattle.board.specs.declared.Standing.{Standing}
 use Rattle.board.specs.declared.Chain.the-variants.{Off, Dumping, Filling}
@@ -92,4 +92,4 @@ abbrev pub planOf : Phase → Standing → ℕ → ℕ → Plan
 planOf Rest s w word = begun s w word
 planOf (Due c left t) s w word = continued c left t w word
 planOf (Waiting c left address value) s w word = workAfter (left - 1) c address value
-planOf (Low low) s w word = Release low
+planOf (Upper low) s w word = Release low

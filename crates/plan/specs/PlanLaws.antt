@@ -2,7 +2,7 @@
 use Prim.Native.Nat.{ℕ}
 use mathlib.Core.Path.{_≡_, refl}
 use mathlib.Core.Bool.{false}
-use Rattle.laws.specs.Tests.{by-test}
+use Rattle.laws.specs.TestLaws.{by-test}
 use Rattle.memory.specs.declared.Size.{Size}
 use Rattle.command.specs.declared.Command.the-variants.{Nop}
 use Rattle.command.specs.Command.{decoded, decodedWord, dump, fill}

@@ -191,6 +191,6 @@ pub fn make_plan(phase: Phase, standing: Standing, w: u32, word: u32) -> Plan
         Phase::Waiting(command, left, address, value) => {
             wait_or_work(less_one(left), command, address, value)
         }
-        Phase::Low(low) => Plan::Release(low),
+        Phase::Upper(low) => Plan::Release(low),
     }
 }

@@ -15,7 +15,7 @@ use Rattle.requests.specs.declared.Request.{Request}
 use Rattle.requests.specs.declared.Request.the-variants.{Rdreg, Wdreg, Read, Write, Dump, Fill, Go, Nop, SyncPc, Rcreg, Wcreg, Rdmreg, Wdmreg}
 use Rattle.requests.specs.Request.{dataInRange, inRange}
 use Rattle.building.specs.RequestWords.{commandWord}
-use Rattle.laws.specs.Tests.{by-test, both-hold}
+use Rattle.laws.specs.TestLaws.{by-test, both-hold}
 use Rattle.pod_laws.specs.MeantCommand.{debugRows, commandOf}
 
 -- two numbers moved alike are equal as they were

@@ -6,7 +6,7 @@ use mathlib.Core.Bool.{true, false, cond}
 use mathlib.Core.List.{List, [], _∷_, _++_}
 use lib.ListN.{length, take}
 use lib.Seq.{take-nil}
-use Rattle.laws.specs.Tests.{by-test}
+use Rattle.laws.specs.TestLaws.{by-test}
 use Rattle.requests.specs.declared.ResultKind.{ResultKind}
 use Rattle.readings.specs.declared.Reader.{Reader}
 use Rattle.readings.specs.declared.Reader.the-variants.{First, Second, Closed, Bad}

@@ -7,7 +7,7 @@ use mathlib.Core.List.{List, [], _∷_}
 use lib.Dec.{eqb}
 use lib.ListN.{length}
 use borrow.Author.Tests.{eqb-true}
-use Rattle.laws.specs.Tests.{either}
+use Rattle.laws.specs.TestLaws.{either}
 use Rattle.command.specs.declared.DebugRegister.{DebugRegister}
 use Rattle.command.specs.declared.DebugRegister.the-variants.{Csr, Baar, Aatr, Tdr, Pbr, Pbmr, Abhr, Ablr, Dbr, Dbmr}
 use Rattle.command.specs.declared.Command.{Command}

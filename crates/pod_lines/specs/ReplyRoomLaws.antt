@@ -8,7 +8,7 @@ use mathlib.Core.Option.{Option, none, some}
 use lib.Dec.{leb}
 use lib.ListN.{length, length-append}
 use borrow.Author.Tests.{leb-true}
-use Rattle.laws.specs.Tests.{both-hold}
+use Rattle.laws.specs.TestLaws.{both-hold}
 use Rattle.requests.specs.declared.Request.{Request}
 use Rattle.words.specs.declared.LineKind.the-variants.{Silent, Clear, TooLong}
 use Rattle.words.specs.LineWords.{ascii, isSilent, kindOf, words, same}

@@ -9,8 +9,8 @@ use mathlib.Core.List.{List, [], _∷_, _++_}
 use lib.ListN.{length, drop, set}
 use lib.Seq.{sets}
 use borrow.Author.Tests.{le-leb, lt-leb}
-use Rattle.laws.specs.Tests.{both-hold}
-use Rattle.laws.specs.Stores.{sets-front}
+use Rattle.laws.specs.TestLaws.{both-hold}
+use Rattle.laws.specs.StoreLaws.{sets-front}
 use Rattle.pod_lines.specs.declared.Taken.{Taken}
 use Rattle.pod_lines.specs.declared.Taken.the-variants.{Count, TooMany, NotAllNumbers}
 use Rattle.numbers.specs.Numbers.{value, isNumeral}

@@ -7,7 +7,7 @@ use lib.Dec.{ltb}
 use Rattle.memory.specs.MemoryLaws.{AllBelow}
 use native.Mathlib.Omega.{arith}
 use borrow.Author.Tests.{ltb-true}
-use Rattle.laws.specs.Tests.{both-hold}
+use Rattle.laws.specs.TestLaws.{both-hold}
 use Rattle.board.specs.State.{State}
 use Rattle.promises.specs.Machine.{standIn}
 use Rattle.promises.specs.Environment.{Handed, handed}

@@ -5,7 +5,7 @@ use mathlib.Core.Bool.{true, false}
 use mathlib.Core.List.{List, [], _∷_, map}
 use Rattle.board.specs.declared.Place.{Place}
 use Rattle.board.specs.declared.Phase.{Phase}
-use Rattle.board.specs.declared.Phase.the-variants.{Rest, Due, Waiting, Low}
+use Rattle.board.specs.declared.Phase.the-variants.{Rest, Due, Waiting, Upper}
 use Rattle.board.specs.Board.{freshPlace, atRest}
 use Rattle.plan.specs.Plan.{noOperands}
 use Rattle.step.specs.Step.{replyIn, replyNow}
@@ -28,8 +28,8 @@ module _ (w : ℕ) where
   told-next (Due c left t) next (o ∷ os) h = rw (stage-due w c o left t (h .0) (h .1))
   told-next (Waiting c left address value) next [] h = absurd h
   told-next (Waiting c left address value) next (o ∷ os) h = rw (stage-waiting w c o (held noOperands (o .operands)) (h .asked) left (h .count) (h .some))
-  told-next (Low low) next [] h = absurd h
-  told-next (Low low) next (o ∷ os) h = rw (h .0)
+  told-next (Upper low) next [] h = absurd h
+  told-next (Upper low) next (o ∷ os) h = rw (h .0)
 
   told-rest : (phase : Phase) (next : ℕ) (os : List Word) → Tells w phase next os → atRest phase ≡ lastClosed os
   told-rest Rest next [] h = refl
@@ -38,8 +38,8 @@ module _ (w : ℕ) where
   told-rest (Due c left t) next (o ∷ os) h = rw (stage-due w c o left t (h .0) (h .1))
   told-rest (Waiting c left address value) next [] h = absurd h
   told-rest (Waiting c left address value) next (o ∷ os) h = rw (stage-waiting w c o (held noOperands (o .operands)) (h .asked) left (h .count) (h .some))
-  told-rest (Low low) next [] h = absurd h
-  told-rest (Low low) next (o ∷ os) h = rw (h .0)
+  told-rest (Upper low) next [] h = absurd h
+  told-rest (Upper low) next (o ∷ os) h = rw (h .0)
 
 -- a closed stage says its reply twice
 closed-reply : (s : Stage) → isClosed s ≡ true → closingAt s ≡ reply (replyAt s)

@@ -12,7 +12,7 @@ use Rattle.command.specs.Reply.{complete}
 use Rattle.board.specs.declared.Place.{Place}
 use Rattle.board.specs.declared.Operands.{Operands}
 use Rattle.board.specs.declared.Phase.{Phase}
-use Rattle.board.specs.declared.Phase.the-variants.{Rest, Due, Waiting, Low}
+use Rattle.board.specs.declared.Phase.the-variants.{Rest, Due, Waiting, Upper}
 use Rattle.work.specs.declared.Ending.{Ending}
 use Rattle.work.specs.declared.Ending.the-variants.{Complete, Failed, OneWord, TwoWords}
 use Rattle.work.specs.Access.{accessOf}
@@ -25,7 +25,7 @@ use Rattle.step.specs.Step.{left, planFor, stepped}
 use Rattle.promises.specs.TakenWords.{Word, endingFound, ended, stage}
 use Rattle.promises.specs.TakenWords.Stage.{upperDue, closed}
 use Rattle.promises.specs.Environment.{Found, foundAt, begins, goesOn, showsUpper, heard}
-use Rattle.laws.specs.Tests.{either}
+use Rattle.laws.specs.TestLaws.{either}
 use Rattle.promises.specs.StageLaws.{not-none, Open, stage-due, stage-waiting, stage-ended, stage-shown, ending-held}
 use Rattle.promises.specs.OperandLaws.{held, held-end, any-c-end}
 
@@ -44,8 +44,8 @@ Tells w (Due c left t) next [] = ⊥
 Tells w (Due c left t) next (o ∷ os) = Open w c left t o × (1 ≤ left) × (o .waited ≡ 0)
 Tells w (Waiting c left address value) next [] = ⊥
 Tells w (Waiting c left address value) next (o ∷ os) = Waits w c left address o
-Tells w (Low low) next [] = ⊥
-Tells w (Low low) next (o ∷ os) = (stage o ≡ upperDue next) × (stage (showsUpper o) ≡ closed low)
+Tells w (Upper low) next [] = ⊥
+Tells w (Upper low) next (o ∷ os) = (stage o ≡ upperDue next) × (stage (showsUpper o) ≡ closed low)
 
 abbrev pub PlaceTells : ℕ → Place → List Word → Type 0
 PlaceTells w p os = Tells w (p .phase) (p .next) os
@@ -155,8 +155,8 @@ module _ (w : ℕ) (f : Found) (p : Place) (setting : f .board .w ≡ w) where
   tells-planned (Waiting c more address value) [] h = absurd h
   tells-planned (Waiting c more address value) (o ∷ os) h =
       rw (stage-waiting w c o (held noOperands (o .operands)) (h .asked) more (h .count) (h .some)) (tells-waited c more address value o os h)
-  tells-planned (Low low) [] h = absurd h
-  tells-planned (Low low) (o ∷ os) h = rw (h .0) (h .1)
+  tells-planned (Upper low) [] h = absurd h
+  tells-planned (Upper low) (o ∷ os) h = rw (h .0) (h .1)
 
   pub tells-next : (os : List Word) → PlaceTells w p os → PlaceTells w (stepped (foundAt f p) (f .word) .place) (heard f p os)
   unfolding stepped planFor

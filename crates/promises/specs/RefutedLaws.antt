@@ -9,7 +9,7 @@ use Rattle.command.specs.Command.{decoded, decodedWord}
 use Rattle.command.specs.Reply.{illegal}
 use Rattle.board.specs.declared.Place.{Place}
 use Rattle.board.specs.declared.Phase.{Phase}
-use Rattle.board.specs.declared.Phase.the-variants.{Rest, Due, Waiting, Low}
+use Rattle.board.specs.declared.Phase.the-variants.{Rest, Due, Waiting, Upper}
 use Rattle.board.specs.Board.{freshBoard, freshPlace, atRest}
 use Rattle.board.specs.Ranges.{inRange, bstatInRange}
 use Rattle.board.specs.Setters.{placeWith}
@@ -78,14 +78,14 @@ abbrev hastyOperand : Phase → Phase
 hastyOperand Rest = Rest
 hastyOperand (Due c left t) = Due c (left - 1) t
 hastyOperand (Waiting c left address value) = Waiting c left address value
-hastyOperand (Low low) = Low low
+hastyOperand (Upper low) = Upper low
 
 -- or with a packet still to wait
 abbrev hastyWait : Phase → Phase
 hastyWait Rest = Rest
 hastyWait (Due c left t) = Due c left t
 hastyWait (Waiting c left address value) = Waiting c (left - 1) address value
-hastyWait (Low low) = Low low
+hastyWait (Upper low) = Upper low
 
 abbrev pub early : (Phase → Phase) → Machine
 early hasty = withStep (λ s word. stepped (inPhase s (hasty (s .place .phase))) word)
@@ -119,10 +119,10 @@ abbrev isDue : Phase → Bool
 isDue Rest = false
 isDue (Due c left t) = true
 isDue (Waiting c left address value) = false
-isDue (Low low) = false
+isDue (Upper low) = false
 
 abbrev pub twice : Machine
-twice = withStep (λ s word. cond (isDue (s .place .phase) && carriesC word) (inPhase (stepped s word) (Low illegal)) (stepped s word))
+twice = withStep (λ s word. cond (isDue (s .place .phase) && carriesC word) (inPhase (stepped s word) (Upper illegal)) (stepped s word))
 
 -- WDMREG CSR, dropped at its first operand
 pub two-closing-replies : Demand3 twice → ⊥

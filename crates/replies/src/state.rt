@@ -96,7 +96,7 @@ fn put_phase(text: &mut [u8], at: usize, phase: Phase) -> usize {
             let at = text::put_text(text, at, b"phase=waiting:");
             text::put_number(text, at, left as usize)
         }
-        Phase::Low(low) => {
+        Phase::Upper(low) => {
             let at = text::put_text(text, at, b"phase=low:");
             text::put_hex(text, at, low as u32, 4)
         }

@@ -3,7 +3,7 @@ use Prim.Native.Nat.{ℕ, _+_, _-_, _≤_, zero-le}
 use mathlib.Core.Path.{_≡_}
 use native.Mathlib.Omega.{arith}
 use Rattle.board.specs.declared.Phase.{Phase}
-use Rattle.board.specs.declared.Phase.the-variants.{Rest, Due, Waiting, Low}
+use Rattle.board.specs.declared.Phase.the-variants.{Rest, Due, Waiting, Upper}
 use Rattle.board.specs.declared.Standing.{Standing}
 use Rattle.board.specs.State.{State, standingOf}
 use Rattle.plan.specs.Plan.{workAfter, waitsOf, continued, planOf}
@@ -20,7 +20,7 @@ nop-leaves w (Due c left t) s h =
 nop-leaves w (Waiting c left address value) s h =
     leaves-more w (left - 1 + uppers c) (left + uppers c - 1) (workAfter (left - 1) c address value) (omega (arith, h .0))
     (work-after-leaves w (left - 1) c address value)
-nop-leaves w (Low low) s h = tt
+nop-leaves w (Upper low) s h = tt
 
 pub nop-takes-one-off : (w : ℕ) (s : State) → s .board .w ≡ w → PhaseWithin w (s .place .phase)
     → toGo w (stepped s 0 .place .phase) ≤ toGo w (s .place .phase) - 1

@@ -20,7 +20,7 @@ use Rattle.command.specs.CommandLaws.{four-at-most}
 use Rattle.board.specs.declared.Board.{Board}
 use Rattle.board.specs.declared.Operands.{Operands}
 use Rattle.board.specs.declared.Phase.{Phase}
-use Rattle.board.specs.declared.Phase.the-variants.{Rest, Due, Waiting, Low}
+use Rattle.board.specs.declared.Phase.the-variants.{Rest, Due, Waiting, Upper}
 use Rattle.board.specs.Board.{atRest}
 use Rattle.registers.specs.Registers.{shown, reached}
 use Rattle.work.specs.declared.Access.the-variants.{Stored, Missing}
@@ -32,7 +32,7 @@ use Rattle.plan.specs.Plan.{carriesC, addressIn, valueIn, withOperand, workAfte
 use Rattle.board.specs.State.{State}
 use Rattle.step.specs.Step.{left}
 use Rattle.sound.specs.Sound.{PhaseWithin}
-use Rattle.laws.specs.Tests.{either}
+use Rattle.laws.specs.TestLaws.{either}
 
 -- the packets that carry out an upper result word: one where there are two words
 abbrev pub uppers : Command → ℕ
@@ -42,7 +42,7 @@ abbrev pub toGo : ℕ → Phase → ℕ
 toGo w Rest = 0
 toGo w (Due c left t) = left + waitsOf w c + uppers c
 toGo w (Waiting c left address value) = left + uppers c
-toGo w (Low low) = 1
+toGo w (Upper low) = 1
 
 pub waits-at-most : (w : ℕ) (c : Command) → waitsOf w c ≤ w
 waits-at-most w c = either (λ (n : ℕ). n ≤ w) (waits c) w 0 (λ e. le-refl w) (λ e. zero-le)
@@ -51,20 +51,20 @@ pub to-go-at-most : (w : ℕ) (phase : Phase) → PhaseWithin w phase → toGo w
 to-go-at-most w Rest h = zero-le
 to-go-at-most w (Due c left t) h = omega (arith, h .1, four-at-most c, waits-at-most w c)
 to-go-at-most w (Waiting c left address value) h = omega (arith, h .1, four-at-most c)
-to-go-at-most w (Low low) h = omega arith
+to-go-at-most w (Upper low) h = omega arith
 
 pub none-to-go : (w : ℕ) (phase : Phase) → PhaseWithin w phase → toGo w phase ≤ 0 → phase ≡ Rest
 none-to-go w Rest h l = refl
 none-to-go w (Due c left t) h l = absurd (omega (arith, h .0))
 none-to-go w (Waiting c left address value) h l = absurd (omega (arith, h .0))
-none-to-go w (Low low) h l = absurd (omega arith)
+none-to-go w (Upper low) h l = absurd (omega arith)
 
 -- not at rest there is something to go
 pub some-to-go : (w : ℕ) (phase : Phase) → PhaseWithin w phase → cond (atRest phase) 0 1 ≤ toGo w phase
 some-to-go w Rest h = zero-le
 some-to-go w (Due c left t) h = omega (arith, h .0)
 some-to-go w (Waiting c left address value) h = omega (arith, h .0)
-some-to-go w (Low low) h = omega arith
+some-to-go w (Upper low) h = omega arith
 
 -- what the work leaves to go: the upper result word, where there are two
 accessed : (w : ℕ) (s : Size) (f : Fetch) (past : ℕ) → toGo w (phaseAfter (accessEnding (fetchedAccess s past f))) ≤ sizeWords s - 1

@@ -4,7 +4,7 @@ use native.Mathlib.Omega.{arith}
 use mathlib.Core.Path.{_≡_, refl, ap}
 use mathlib.Core.Bool.{true}
 use Rattle.board.specs.declared.Phase.{Phase}
-use Rattle.board.specs.declared.Phase.the-variants.{Rest, Due, Waiting, Low}
+use Rattle.board.specs.declared.Phase.the-variants.{Rest, Due, Waiting, Upper}
 use Rattle.board.specs.Board.{atRest}
 use Rattle.board.specs.Setters.{placeWith}
 use Rattle.board.specs.State.{State, stateOf}
@@ -16,7 +16,7 @@ use Rattle.rest.specs.ToGoLaws.{toGo, to-go-at-most, none-to-go, some-to-go}
 use Rattle.rest.specs.NopLaws.{nop-takes-one-off}
 use Rattle.round_trip.specs.RoundTrip.{nops, resting, sceneOf}
 use Rattle.round_trip.specs.BroughtToRest.{rested, restNops, restBudget, restPackets}
-use Rattle.laws.specs.Tests.{by-test}
+use Rattle.laws.specs.TestLaws.{by-test}
 
 nop-leaves : {s : State} → Sound s → toGo (stepped s 0 .board .w) (stepped s 0 .place .phase) ≤ toGo (s .board .w) (s .place .phase) - 1
 nop-leaves {s} f =
@@ -72,4 +72,4 @@ rest-is-resting s t = by-phase (s .place .phase) t
     by-phase Rest t = refl
     by-phase (Due c n o) t = cc
     by-phase (Waiting c n a v) t = cc
-    by-phase (Low low) t = cc
+    by-phase (Upper low) t = cc

@@ -15,7 +15,7 @@ use Rattle.readings.specs.declared.Outcome.the-variants.{Complete}
 use Rattle.pod_laws.specs.MeantCommand.{debugRows}
 use Rattle.round_trip.specs.Meaning.{Scene, Meaning, ends, meaning, reads, writes}
 use Rattle.round_trip.specs.RoundTrip.{legalThere}
-use Rattle.laws.specs.Tests.{by-test}
+use Rattle.laws.specs.TestLaws.{by-test}
 
 -- the same with another wait setting
 abbrev boardAtW : ℕ → Board → Board

@@ -17,7 +17,7 @@ use Rattle.requests.specs.declared.Request.the-variants.{Rdreg, Wdreg, Read, Wr
 use Rattle.requests.specs.declared.ResultKind.the-variants.{OfSize}
 use Rattle.requests.specs.Request.{dataInRange, inRange, kindOf}
 use Rattle.building.specs.RequestWords.{commandWord, operands}
-use Rattle.laws.specs.Tests.{both-hold}
+use Rattle.laws.specs.TestLaws.{both-hold}
 use Rattle.pod_laws.specs.MeantCommand.{commandOf}
 use Rattle.pod_laws.specs.MeantCommandLaws.{decoded-as-meant}
 use Rattle.pod_laws.specs.RequestCountLaws.{found-rdmreg, operand-count}

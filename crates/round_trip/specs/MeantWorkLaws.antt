@@ -33,7 +33,7 @@ use Rattle.pod_laws.specs.RequestCountLaws.{found-debug}
 use Rattle.round_trip.specs.Meaning.{Scene, Meaning, meaning, ends, reads, writes, readsControl, writesControl}
 use Rattle.round_trip.specs.RoundTrip.{sceneOf}
 use Rattle.round_trip.specs.ClosesLaws.{outcomeOf, Fits}
-use Rattle.laws.specs.Tests.{by-test}
+use Rattle.laws.specs.TestLaws.{by-test}
 
 -- what the port's work ends in, and what it leaves
 abbrev pub workEnding : Command → ℕ → Scene → Ending

@@ -35,7 +35,7 @@ use Rattle.round_trip.specs.ClosesLaws.{Closes}
 use Rattle.round_trip.specs.MeantWorkLaws.{Sized, sound-is-sized}
 use Rattle.round_trip.specs.RoundTripLaws.{legal-closes, illegal-closes}
 use Rattle.round_trip.specs.BroughtToRestLaws.{rest-is-resting, comes-to-rest, rest-keeps-sound}
-use Rattle.laws.specs.Tests.{by-test}
+use Rattle.laws.specs.TestLaws.{by-test}
 
 -- ---- the words sent, one after the other
 -- a list of words is what a request sends from its i-th packet on

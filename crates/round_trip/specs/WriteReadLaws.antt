@@ -14,7 +14,7 @@ use Rattle.memory.specs.MemoryLaws.{limit, put-keeps-length}
 use Rattle.requests.specs.declared.Request.the-variants.{Read, Write}
 use Rattle.readings.specs.declared.Outcome.the-variants.{Value, Complete}
 use Rattle.requests.specs.Request.{dataInRange, inRange}
-use Rattle.laws.specs.Tests.{both-hold}
+use Rattle.laws.specs.TestLaws.{both-hold}
 use Rattle.round_trip.specs.Meaning.{Scene, meaning}
 
 -- ---- the bytes of a store are fetched back

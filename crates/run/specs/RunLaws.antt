@@ -11,7 +11,7 @@ use lib.Seq.{drop-cons, take-suc-set, drop-set-lt}
 use Rattle.board.specs.declared.Board.{Board}
 use Rattle.board.specs.declared.Place.{Place}
 use Rattle.board.specs.declared.Phase.{Phase}
-use Rattle.board.specs.declared.Phase.the-variants.{Rest, Due, Waiting, Low}
+use Rattle.board.specs.declared.Phase.the-variants.{Rest, Due, Waiting, Upper}
 use Rattle.board.specs.Ranges.{inRange}
 use Rattle.board.specs.State.{State, stateOf}
 use Rattle.work.specs.declared.Ending.{Ending}
@@ -55,7 +55,7 @@ reply-held s word step = rw step (by-plan (planFor (s .board) (s .place) word))
     by-phase Rest = refl
     by-phase (Due c left taken) = refl
     by-phase (Waiting c left address value) = refl
-    by-phase (Low low) = refl
+    by-phase (Upper low) = refl
 
     by-ending : (ending : Ending) → firstReply ending ≡ replyIn (phaseAfter ending) (firstReply ending)
     by-ending Complete = refl

@@ -7,7 +7,7 @@ use lib.ListN.{set}
 use Rattle.command.specs.Reply.{complete}
 use Rattle.board.specs.declared.Place.{Place}
 use Rattle.board.specs.declared.Phase.{Phase}
-use Rattle.board.specs.declared.Phase.the-variants.{Rest, Due, Waiting, Low}
+use Rattle.board.specs.declared.Phase.the-variants.{Rest, Due, Waiting, Upper}
 use Rattle.board.specs.Setters.{placeWith}
 use Rattle.board.specs.State.{State}
 use Rattle.plan.specs.Plan.{withOperand}
@@ -27,10 +27,10 @@ abbrev pub hasShortWay : Phase → ℕ → Bool
 hasShortWay Rest word = eqb word 0
 hasShortWay (Due c left taken) word = leb 2 left && leb word 0xFFFF
 hasShortWay (Waiting c left address value) word = false
-hasShortWay (Low low) word = true
+hasShortWay (Upper low) word = true
 
 abbrev pub shortWay : Phase → Place → ℕ → Place
 shortWay Rest p word = idled p
 shortWay (Due c left taken) p word = holding p (Due c (left - 1) (withOperand taken word))
 shortWay (Waiting c left address value) p word = p
-shortWay (Low low) p word = released p low
+shortWay (Upper low) p word = released p low

@@ -6,13 +6,13 @@ use mathlib.Core.List.{List}
 use native.Mathlib.Omega.{arith}
 use lib.Dec.{leb}
 use borrow.Author.Tests.{eqb-true, leb-true, lt-leb, ne-eqb}
-use Rattle.laws.specs.Tests.{both-hold}
+use Rattle.laws.specs.TestLaws.{both-hold}
 use Rattle.command.specs.declared.Command.{Command}
 use Rattle.board.specs.declared.Board.{Board}
 use Rattle.board.specs.declared.Place.{Place}
 use Rattle.board.specs.declared.Operands.{Operands}
 use Rattle.board.specs.declared.Phase.{Phase}
-use Rattle.board.specs.declared.Phase.the-variants.{Rest, Due, Waiting, Low}
+use Rattle.board.specs.declared.Phase.the-variants.{Rest, Due, Waiting, Upper}
 use Rattle.board.specs.State.{stateOf, standingOf}
 use Rattle.plan.specs.declared.Plan.the-variants.{Hold}
 use Rattle.plan.specs.Plan.{continued, collected, withOperand}
@@ -36,4 +36,4 @@ unfolding planFor stepped
 short-way-step Rest b p m word at e = rw (at, eqb-true word 0 e, nop-plan (standingOf b p) (b .w))
 short-way-step (Due c left taken) b p m word at e = rw (at, operand-plan c left taken (b .w) word e)
 short-way-step (Waiting c left address value) b p m word at e = cc
-short-way-step (Low low) b p m word at e = rw at
+short-way-step (Upper low) b p m word at e = rw at

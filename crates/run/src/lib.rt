@@ -75,7 +75,7 @@ fn has_short_way(place: Place, word: u32) -> bool
             false
         }
         Phase::Waiting(_, _, _, _) => false,
-        Phase::Low(_) => true,
+        Phase::Upper(_) => true,
     }
 }
 
@@ -98,7 +98,7 @@ fn take_short_way(place: Place, word: u32) -> Place
             step::hold(place, Phase::Due(command, left - 1, all))
         }
         Phase::Waiting(_, _, _, _) => place,
-        Phase::Low(low) => step::release(place, low),
+        Phase::Upper(low) => step::release(place, low),
     }
 }
 

@@ -10,7 +10,7 @@ use Rattle.board.specs.declared.Board.{Board}
 use Rattle.board.specs.declared.Debug.{Debug}
 use Rattle.board.specs.declared.Operands.{Operands}
 use Rattle.board.specs.declared.Phase.{Phase}
-use Rattle.board.specs.declared.Phase.the-variants.{Rest, Due, Waiting, Low}
+use Rattle.board.specs.declared.Phase.the-variants.{Rest, Due, Waiting, Upper}
 use Rattle.board.specs.declared.Place.{Place}
 use Rattle.board.specs.Ranges.{bstatInRange}
 use Rattle.board.specs.State.{State}
@@ -48,7 +48,7 @@ abbrev pub PhaseWithin : ℕ → Phase → Type 0
 PhaseWithin w Rest = Unit {0}
 PhaseWithin w (Due c left t) = (1 ≤ left) × (left ≤ operandWords c) × OperandsWithin t
 PhaseWithin w (Waiting c left address value) = (1 ≤ left) × (left ≤ w) × (waits c ≡ true) × (address < 2 ^ 32) × (value < 2 ^ 32)
-PhaseWithin w (Low low) = low < 2 ^ 16
+PhaseWithin w (Upper low) = low < 2 ^ 16
 
 pub record SoundPlace (w : ℕ) (p : Place) : Type 0 where
   pub phase : PhaseWithin w (p .phase)

@@ -7,7 +7,7 @@ use lib.Dec.{eqb}
 use lib.Bits.{and-le-r}
 use lib.ListN.{set, replicate}
 use borrow.Author.Tests.{le-leb}
-use Rattle.laws.specs.Tests.{either}
+use Rattle.laws.specs.TestLaws.{either}
 use Rattle.memory.specs.MemoryLaws.{AllBelow, set-keeps-below}
 use Rattle.command.specs.declared.DebugRegister.{DebugRegister}
 use Rattle.command.specs.declared.DebugRegister.the-variants.{Csr, Baar, Aatr, Tdr, Pbr, Pbmr, Abhr, Ablr, Dbr, Dbmr}
@@ -17,7 +17,7 @@ use Rattle.board.specs.declared.Board.{Board}
 use Rattle.board.specs.declared.Status.{Status}
 use Rattle.board.specs.declared.Debug.{Debug}
 use Rattle.board.specs.declared.Phase.{Phase}
-use Rattle.board.specs.declared.Phase.the-variants.{Rest, Due, Waiting, Low}
+use Rattle.board.specs.declared.Phase.the-variants.{Rest, Due, Waiting, Upper}
 use Rattle.board.specs.declared.Place.{Place}
 use Rattle.board.specs.Board.{freshBoard, freshPlace}
 use Rattle.board.specs.Ranges.{phaseInRange, bstatInRange, inRange}
@@ -173,7 +173,7 @@ phase-in-range : (w : ℕ) (phase : Phase) → PhaseWithin w phase → phaseInRa
 phase-in-range w Rest h = refl
 phase-in-range w (Due c left t) h = rw (le-leb 1 left (h .0), le-leb left (operandWords c) (h .1))
 phase-in-range w (Waiting c left a v) h = rw (le-leb 1 left (h .0), le-leb left w (h .1)) (h .2)
-phase-in-range w (Low low) h = refl
+phase-in-range w (Upper low) h = refl
 
 pub sound-is-in-range : (w : ℕ) (b : Board) (p : Place) → SoundBoard w b → SoundPlace w p → inRange b p ≡ true
 unfolding inRange

@@ -9,12 +9,12 @@ use Rattle.command.specs.declared.Command.{Command}
 use Rattle.command.specs.Command.{decoded, operandWords, waits}
 use Rattle.board.specs.declared.Operands.{Operands}
 use Rattle.board.specs.declared.Phase.{Phase}
-use Rattle.board.specs.declared.Phase.the-variants.{Rest, Due, Waiting, Low}
+use Rattle.board.specs.declared.Phase.the-variants.{Rest, Due, Waiting, Upper}
 use Rattle.board.specs.declared.Standing.{Standing}
 use Rattle.plan.specs.declared.Plan.{Plan}
 use Rattle.plan.specs.declared.Plan.the-variants.{Hold, Reject, Release, Work}
 use Rattle.plan.specs.Plan.{carriesC, legalWord, noOperands, withOperand, addressIn, valueIn, long, waitsOf, workAfter, collected, begun, continued, planOf}
-use Rattle.laws.specs.Tests.{either}
+use Rattle.laws.specs.TestLaws.{either}
 use Rattle.sound.specs.Sound.{OperandsWithin, PhaseWithin}
 
 -- ---- the plan
@@ -80,4 +80,4 @@ pub plan-within : (phase : Phase) (s : Standing) (w word : ℕ) → PhaseWithin 
 plan-within Rest s w word h = begun-within s w word
 plan-within (Due c left t) s w word h = continued-within c left t w word (h .1) (h .2)
 plan-within (Waiting c left a d) s w word h = work-after-within w (left - 1) c a d (rw (h .2) (omega (arith, h .1))) (h .3) (h .4)
-plan-within (Low low) s w word h = h
+plan-within (Upper low) s w word h = h

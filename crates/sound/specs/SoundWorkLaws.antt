@@ -7,7 +7,7 @@ use mathlib.Core.List.{List}
 use lib.Bits.{and-le-r}
 use lib.ListN.{length, getD}
 use borrow.Author.Tests.{leb-true}
-use Rattle.laws.specs.Tests.{either}
+use Rattle.laws.specs.TestLaws.{either}
 use Rattle.memory.specs.declared.Size.{Size}
 use Rattle.memory.specs.declared.Size.the-variants.{Byte, Word, Long}
 use Rattle.memory.specs.declared.Fetch.the-variants.{Value, BusError}

@@ -7,7 +7,7 @@ use Rattle.command.specs.Reply.{notReady, illegal}
 use Rattle.board.specs.declared.Board.{Board}
 use Rattle.board.specs.declared.Place.{Place}
 use Rattle.board.specs.declared.Phase.{Phase}
-use Rattle.board.specs.declared.Phase.the-variants.{Rest, Due, Waiting, Low}
+use Rattle.board.specs.declared.Phase.the-variants.{Rest, Due, Waiting, Upper}
 use Rattle.board.specs.declared.Chain.{Chain}
 use Rattle.board.specs.declared.Chain.the-variants.{Off}
 use Rattle.board.specs.Setters.{placeWith}
@@ -24,7 +24,7 @@ abbrev pub replyIn : Phase → ℕ → ℕ
 replyIn Rest next = next
 replyIn (Due c left t) next = notReady
 replyIn (Waiting c left a d) next = notReady
-replyIn (Low low) next = next
+replyIn (Upper low) next = next
 
 unfoldable pub replyNow : Place → ℕ
 replyNow p = replyIn (p .phase) (p .next)
@@ -44,7 +44,7 @@ abbrev pub chainIn : Phase → Chain → Chain
 chainIn Rest chain = chain
 chainIn (Due c left t) chain = chainDuring c chain
 chainIn (Waiting c left a d) chain = chainDuring c chain
-chainIn (Low low) chain = chain
+chainIn (Upper low) chain = chain
 
 -- "the next reply is 0x1FFFF and the port is at rest"; "illegal command word .. or a drop ends the chain"
 abbrev pub rejected : Place → Place

@@ -26,7 +26,7 @@ pub fn reply_of(place: Place) -> u32
         Phase::Rest => place.next,
         Phase::Due(_, _, _) => command::NOT_READY,
         Phase::Waiting(_, _, _, _) => command::NOT_READY,
-        Phase::Low(_) => place.next,
+        Phase::Upper(_) => place.next,
     }
 }
 
@@ -56,7 +56,7 @@ fn chain_in(phase: Phase, chain: Chain) -> Chain
         Phase::Rest => chain,
         Phase::Due(command, _, _) => chain_during(command, chain),
         Phase::Waiting(command, _, _, _) => chain_during(command, chain),
-        Phase::Low(_) => chain,
+        Phase::Upper(_) => chain,
     }
 }
 

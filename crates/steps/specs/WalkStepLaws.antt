@@ -12,7 +12,7 @@ use Rattle.trace.specs.declared.Listing.the-variants.{Items, Refused}
 use Rattle.steps.specs.declared.Cursor.{Cursor}
 use Rattle.cycle.specs.Cycle.{pst, givesOwn, after}
 use Rattle.cycle.specs.CycleItems.{ofValue, ofCycle}
-use Rattle.laws.specs.Stores.{one-left}
+use Rattle.laws.specs.StoreLaws.{one-left}
 use Rattle.steps.specs.declared.Handed.the-variants.{End as atEnd, Refused as asRefused}
 use Rattle.steps.specs.WalkStep.{cursorAt, valueNext, handing, stepFrom, stepRead, stepBy, stepOf}
 

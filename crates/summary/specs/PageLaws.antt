@@ -9,7 +9,7 @@ use lib.Seq.{sets, paste, take-at}
 use Rattle.grounds.specs.declared.Ground.{Ground}
 use Rattle.grounds.specs.declared.Ground.the-variants.{BufferTooShort}
 use Rattle.grounds.specs.Grounds.{number}
-use Rattle.laws.specs.Stores.{sets-front}
+use Rattle.laws.specs.StoreLaws.{sets-front}
 use Rattle.cycle.specs.Cycle.{nothing}
 use Rattle.trace.specs.Items.{items}
 use Rattle.trace.specs.TraceReading.{refusal, counted, toldListing, tooShort, reading}

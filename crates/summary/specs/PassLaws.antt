@@ -10,7 +10,7 @@ use lib.Seq.{sets, paste, paste-suc}
 use borrow.Author.Tests.{lt-ltb, le-ltb}
 use Rattle.grounds.specs.declared.Ground.the-variants.{TraceTooLong}
 use Rattle.grounds.specs.Grounds.{number}
-use Rattle.laws.specs.Stores.{length-stored}
+use Rattle.laws.specs.StoreLaws.{length-stored}
 use Rattle.cycle.specs.declared.Carried.{Carried}
 use Rattle.cycle.specs.Cycle.{nothing}
 use Rattle.trace.specs.declared.Listing.{Listing}

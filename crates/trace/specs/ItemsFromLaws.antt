@@ -11,7 +11,7 @@ use Rattle.cycle.specs.Cycle.{pst, nothing, after, carriedInto}
 use Rattle.cycle.specs.CycleLaws.{carried-next}
 use Rattle.cycle.specs.CycleItems.{itemsAt}
 use Rattle.cycle.specs.CycleCountLaws.{count-le}
-use Rattle.laws.specs.Stores.{one-left}
+use Rattle.laws.specs.StoreLaws.{one-left}
 use Rattle.trace.specs.Items.{itemsBefore, items, itemsFrom, itemsToEnd, words}
 use Rattle.trace.specs.ItemLaws.{items-more, words-append}
 

@@ -12,7 +12,7 @@ use Rattle.grounds.specs.Grounds.{number}
 use Rattle.cycle.specs.declared.Carried.{Carried}
 use Rattle.cycle.specs.Cycle.{pst, reserved, tooSoon, nothing, after}
 use Rattle.trace.specs.Items.{items, itemsToEnd}
-use Rattle.laws.specs.Stores.{one-left}
+use Rattle.laws.specs.StoreLaws.{one-left}
 use Rattle.trace.specs.ItemsFromLaws.{items-whole}
 use Rattle.trace.specs.TraceReading.{Told, refusal, counted, tooLong, earliest, endsInside, tooShort, judgedFrom, judged, reading, readingFrom}
 

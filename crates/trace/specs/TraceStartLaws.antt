@@ -11,7 +11,7 @@ use Rattle.grounds.specs.Grounds.{number}
 use Rattle.cycle.specs.declared.Carried.{Carried}
 use Rattle.cycle.specs.Cycle.{pst, reserved, tooSoon, nothing, after, carriedInto}
 use Rattle.trace.specs.Items.{itemsBefore, items, itemsToEnd}
-use Rattle.laws.specs.Stores.{one-left}
+use Rattle.laws.specs.StoreLaws.{one-left}
 use Rattle.trace.specs.ItemsFromLaws.{items-split}
 use Rattle.trace.specs.TraceReading.{Told, refusal, counted, earliest, reading, readingFrom}
 use Rattle.trace.specs.TraceReadingLaws.{passes-any, read-count, read-short, reading-short, reading-whole}

@@ -9,7 +9,7 @@ use Rattle.command.specs.declared.Command.the-variants.{Unknown, Nop, Load, Sto
 use Rattle.command.specs.Reply.{complete, busError}
 use Rattle.board.specs.declared.Board.{Board}
 use Rattle.board.specs.declared.Phase.{Phase}
-use Rattle.board.specs.declared.Phase.the-variants.{Rest, Low}
+use Rattle.board.specs.declared.Phase.the-variants.{Rest, Upper}
 use Rattle.board.specs.declared.Chain.{Chain}
 use Rattle.board.specs.declared.Chain.the-variants.{Off, Dumping, Filling}
 use Rattle.board.specs.declared.Place.{Place}
@@ -59,7 +59,7 @@ abbrev pub phaseAfter : Ending → Phase
 phaseAfter Complete = Rest
 phaseAfter Failed = Rest
 phaseAfter (OneWord v) = Rest
-phaseAfter (TwoWords v) = Low (v % 65536)
+phaseAfter (TwoWords v) = Upper (v % 65536)
 
 -- "DUMP is legal only after READ or DUMP, FILL only after WRITE or FILL; NOPs may stand between."
 abbrev pub chainBy : Command → Chain → Chain

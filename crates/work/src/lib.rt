@@ -165,7 +165,7 @@ fn phase_after(ending: Ending) -> Phase
         Ending::Complete => Phase::Rest,
         Ending::Failed => Phase::Rest,
         Ending::OneWord(_) => Phase::Rest,
-        Ending::TwoWords(value) => Phase::Low((value % 65536) as u16),
+        Ending::TwoWords(value) => Phase::Upper((value % 65536) as u16),
     }
 }
 

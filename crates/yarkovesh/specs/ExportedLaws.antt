@@ -7,7 +7,7 @@ use Rattle.grounds.specs.declared.Ground.{Ground}
 use Rattle.grounds.specs.declared.Verdict.{Verdict}
 use Rattle.grounds.specs.declared.Verdict.the-variants.{Accepted, Refused}
 use Rattle.grounds.specs.Grounds.{number, ifAccepted}
-use Rattle.grounds.specs.GroundLaws.{told-once}
+use Rattle.grounds.specs.GroundLaws.{told-unique}
 use Rattle.board.specs.declared.Board.{Board}
 use Rattle.board.specs.declared.Place.{Place}
 use Rattle.board.specs.declared.Made.{Made}
@@ -27,7 +27,7 @@ run-is-fresh {w} {m} {words} {before} {left} {out} {made} {r} making accepted ru
 }
   where
     judged : makingVerdict w ≡ Accepted
-    judged = sym (told-once (made .verdict) (makingVerdict w) (making .answer)) ∙ accepted
+    judged = sym (told-unique (made .verdict) (makingVerdict w) (making .answer)) ∙ accepted
 
     here : RunMeets (fresh w m) words before r left out
     here = subst₂ (λ (b : Board) (p : Place). RunMeets (stateOf b p m) words before r left out) (making .board) (making .place) run
@@ -46,4 +46,4 @@ refused-is-fresh {w} {m} {words} {before} {made} {g} making refused = record {
 }
   where
     judged : makingVerdict w ≡ Refused g
-    judged = sym (told-once (made .verdict) (makingVerdict w) (making .answer)) ∙ refused
+    judged = sym (told-unique (made .verdict) (makingVerdict w) (making .answer)) ∙ refused

@@ -4,7 +4,7 @@ use lib.ListN.{length}
 use Rattle.grounds.specs.declared.Verdict.the-variants.{Accepted, Refused}
 use Rattle.grounds.specs.declared.Ground.the-variants.{BufferTooShort}
 use Rattle.building.specs.RequestWords.{builtWords}
-use Rattle.laws.specs.Stores.{sets-front}
+use Rattle.laws.specs.StoreLaws.{sets-front}
 use Rattle.building.specs.Building.{buildingVerdict}
 use mathlib.Core.Path.{_∙_}
 use borrow.Author.Tests.{le-leb, lt-leb}

@@ -7,7 +7,7 @@ use Rattle.trace.specs.ItemLaws.{length-words}
 use Rattle.trace.specs.TraceReading.{counted, toldListing}
 use Rattle.trace.specs.TraceReadingLaws.{short-so, room-so, read-short}
 use Rattle.listing.specs.ListingLaws.{refused-from, read-from, listing-meets}
-use Rattle.laws.specs.Stores.{sets-front}
+use Rattle.laws.specs.StoreLaws.{sets-front}
 use borrow.Author.Needs.{needs}
 use Rattle.listing.proofs.list_from.Statement.{statement}
 use Rattle.listing.proofs.list_from.Tie as tie

@@ -5,7 +5,7 @@ use lib.ListN.{length, length-append}
 use Rattle.cycle.specs.CycleItems.{valueItem, ownItem}
 use Rattle.trace.specs.Items.{words}
 use Rattle.trace.specs.ItemLaws.{words-at}
-use Rattle.laws.specs.Stores.{sets-append, length-stored}
+use Rattle.laws.specs.StoreLaws.{sets-append, length-stored}
 use borrow.Author.Needs.{needs}
 use Rattle.listing.proofs.put_cycle.Statement.{statement}
 use Rattle.listing.proofs.put_cycle.Tie as tie

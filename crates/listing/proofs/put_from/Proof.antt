@@ -10,7 +10,7 @@ use Rattle.cycle.specs.Cycle.{pst, after}
 use Rattle.cycle.specs.CycleItems.{itemsAt}
 use Rattle.trace.specs.Items.{itemsToEnd, words}
 use Rattle.trace.specs.ItemsFromLaws.{to-end-none, words-to-end}
-use Rattle.laws.specs.Stores.{sets-append, length-stored}
+use Rattle.laws.specs.StoreLaws.{sets-append, length-stored}
 use Rattle.listing.proofs.put_from.Statement.{statement}
 use Rattle.listing.proofs.put_from.Tie as tie
 
