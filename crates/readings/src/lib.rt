@@ -55,7 +55,7 @@ fn take_data(kind: ResultKind, reply: u32) -> Reader
 {
     match kind {
         ResultKind::NoResult => {
-            if reply == 0xFFFF {
+            if reply == command::COMPLETE {
                 return Reader::Closed(Outcome::Complete);
             }
             Reader::Bad(Ground::ImpossibleReply)
@@ -68,9 +68,9 @@ fn take_status(reply: u32) -> Reader
     ensures { λ r. ⌜ r ≡ statusReply reply ⌝ }
 {
     match reply {
-        0x10000 => Reader::First,
-        0x10001 => Reader::Closed(Outcome::BusError),
-        0x1FFFF => Reader::Closed(Outcome::Illegal),
+        command::NOT_READY => Reader::First,
+        command::BUS_ERROR => Reader::Closed(Outcome::BusError),
+        command::ILLEGAL => Reader::Closed(Outcome::Illegal),
         _ => Reader::Bad(Ground::ImpossibleReply),
     }
 }
