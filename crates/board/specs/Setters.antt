@@ -11,6 +11,9 @@ use Rattle.board.specs.declared.Phase.{Phase}
 use Rattle.board.specs.declared.Chain.{Chain}
 
 -- ---- the board
+abbrev pub withW : Board → ℕ → Board
+withW b w = record { w = w; status = b .status; registers = b .registers; debug = b .debug }
+
 abbrev pub withStatus : Board → Status → Board
 withStatus b s = record { w = b .w; status = s; registers = b .registers; debug = b .debug }
 

@@ -11,9 +11,10 @@ use Rattle.command.specs.declared.DebugRegister.the-variants.{Aatr, Tdr, Pbr, P
 use Rattle.command.specs.Command.{wdmreg, go}
 use Rattle.grounds.specs.Grounds.{noRefusal}
 use Rattle.board.specs.declared.Board.{Board}
+use Rattle.board.specs.declared.Status.{Status}
 use Rattle.board.specs.Board.{freshBoard, freshPlace}
 use Rattle.board.specs.Ranges.{inRange, bstatInRange}
-use Rattle.board.specs.Setters.{withStatus, withHalted, withTrg, withBstat}
+use Rattle.board.specs.Setters.{withStatus, withDebug, withHalted, withTrg, withBkpt, withBstat}
 use Rattle.registers.specs.Csr.{csrValue}
 use Rattle.registers.specs.Registers.{boardAfter, debugLoaded, debugWritten}
 use Rattle.trigger.specs.declared.Event.{Event}
@@ -65,14 +66,15 @@ p4Csr = 0x24100000
 abbrev p4Board : ℕ → Board
 p4Board w = afterSettings p4Settings (freshBoard w)
 
+-- what GO leaves of a fresh status, at some BSTAT
+abbrev running : Status → ℕ → Status
+running s bstat = withBstat (withBkpt (withHalted s false) false) bstat
+
 -- what that comes to
 abbrev p4Set : ℕ → Board
-p4Set w = record {
-  w = w;
-  status = record { halted = false; fof = false; trg = false; halt = false; bkpt = false; bstat = 1; sync = false };
-  registers = freshBoard w .registers;
-  debug = record { csr = 0; baar = 0x05; aatr = 0x0005; tdr = 0x40002002; pbr = 0x1000; pbmr = 0xF; abhr = 0; ablr = 0; dbr = 0; dbmr = 0 };
-}
+p4Set w =
+    withDebug (withStatus (freshBoard w) (running (freshBoard w .status) 1))
+    (record { csr = 0; baar = 0x05; aatr = 0x0005; tdr = 0x40002002; pbr = 0x1000; pbmr = 0xF; abhr = 0; ablr = 0; dbr = 0; dbmr = 0 })
 
 p4-set : (w : ℕ) → p4Board w ≡ p4Set w
 unfolding freshBoard debugLoaded debugWritten
@@ -85,20 +87,20 @@ pub record P4 (b : Board) : Type 0 where
 
 -- the event that fires nothing changes nothing
 p4-passes : (w : ℕ) → leb w 15 ≡ true → after (p4Set w) p4Outside ≡ p4Set w
-unfolding freshPlace inRange bstatInRange agree levelOf pcGroup addressGroup joined fires firedLevel bstatAfter responds firing statusAfter eventVerdict
+unfolding freshBoard freshPlace inRange bstatInRange agree levelOf pcGroup addressGroup joined fires firedLevel bstatAfter responds firing statusAfter eventVerdict
 p4-passes w allowed = rw allowed
 
 -- the other halts
 p4-fires : (w : ℕ) → leb w 15 ≡ true → after (p4Set w) p4Inside ≡ withStatus (p4Set w) (withBstat (withTrg (withHalted (p4Set w .status) true) true) 2)
-unfolding freshPlace inRange bstatInRange agree levelOf pcGroup addressGroup joined fires firedLevel bstatAfter responds firing statusAfter eventVerdict
+unfolding freshBoard freshPlace inRange bstatInRange agree levelOf pcGroup addressGroup joined fires firedLevel bstatAfter responds firing statusAfter eventVerdict
 p4-fires w allowed = rw allowed
 
 p4-answers : (w : ℕ) → leb w 15 ≡ true → (answered (p4Set w) p4Outside ≡ fired 0 false) × (answered (p4Set w) p4Inside ≡ fired 1 true)
-unfolding freshPlace inRange bstatInRange agree levelOf pcGroup addressGroup joined fires firedLevel bstatAfter responds firing seen eventVerdict
+unfolding freshBoard freshPlace inRange bstatInRange agree levelOf pcGroup addressGroup joined fires firedLevel bstatAfter responds firing seen eventVerdict
 p4-answers w allowed = (rw allowed, rw allowed)
 
 p4-of-set : (w : ℕ) → leb w 15 ≡ true → P4 (p4Set w)
-unfolding csrValue
+unfolding freshBoard csrValue
 p4-of-set w allowed = record {
   outside = p4-answers w allowed .0;
   inside = ap (λ (b : Board). answered b p4Inside) (p4-passes w allowed) ∙ p4-answers w allowed .1;
@@ -117,12 +119,9 @@ abbrev p5Board : ℕ → ℕ → ℕ → Board
 p5Board w pbr ablr = afterSettings (p5Settings pbr ablr) (freshBoard w)
 
 abbrev p5Set : ℕ → ℕ → ℕ → ℕ → Board
-p5Set bstat w pbr ablr = record {
-  w = w;
-  status = record { halted = false; fof = false; trg = false; halt = false; bkpt = false; bstat = bstat; sync = false };
-  registers = freshBoard w .registers;
-  debug = record { csr = 0; baar = 0x05; aatr = 0x0005; tdr = 0x20042002; pbr = pbr; pbmr = 0; abhr = 0; ablr = ablr; dbr = 0; dbmr = 0 };
-}
+p5Set bstat w pbr ablr =
+    withDebug (withStatus (freshBoard w) (running (freshBoard w .status) bstat))
+    (record { csr = 0; baar = 0x05; aatr = 0x0005; tdr = 0x20042002; pbr = pbr; pbmr = 0; abhr = 0; ablr = ablr; dbr = 0; dbmr = 0 })
 
 p5-set : (w pbr ablr : ℕ) → p5Board w pbr ablr ≡ p5Set 1 w pbr ablr
 unfolding freshBoard debugLoaded debugWritten
@@ -137,12 +136,12 @@ self n = eq-eqb n n refl
 
 module _ (w pbr ablr lanes : ℕ) (allowed : leb w 15 ≡ true) (even : eqb (pbr % 2) 0 ≡ true) where
   p5-one : after (p5Set 1 w pbr ablr) (p5Event pbr ablr lanes) ≡ p5Set 5 w pbr ablr
-  unfolding freshPlace inRange bstatInRange agree levelOf pcGroup addressMatches attributeAgrees dataEnabled addressGroup joined fires firedLevel bstatAfter
+  unfolding freshBoard freshPlace inRange bstatInRange agree levelOf pcGroup addressMatches attributeAgrees dataEnabled addressGroup joined fires firedLevel bstatAfter
       responds firing statusAfter eventVerdict
   p5-one = rw (allowed, even, self (bitOr pbr 0))
 
   p5-two : after (p5Set 5 w pbr ablr) (p5Event pbr ablr lanes) .status .bstat ≡ 6
-  unfolding freshPlace inRange bstatInRange agree levelOf pcGroup addressMatches attributeAgrees dataEnabled addressGroup joined fires firedLevel bstatAfter
+  unfolding freshBoard freshPlace inRange bstatInRange agree levelOf pcGroup addressMatches attributeAgrees dataEnabled addressGroup joined fires firedLevel bstatAfter
       responds firing statusAfter eventVerdict
   p5-two = rw (allowed, even, self ablr)
 

@@ -7,6 +7,8 @@ use mathlib.Core.List.{List, [], _∷_, _++_}
 use lib.ListN.{length}
 use Rattle.memory.specs.declared.Size.the-variants.{Byte, Word, Long}
 use Rattle.command.specs.declared.Command.{Command}
+use Rattle.board.specs.Board.{freshPlace}
+use Rattle.board.specs.Setters.{placeWith}
 use Rattle.board.specs.declared.Operands.{Operands}
 use Rattle.board.specs.declared.Phase.the-variants.{Due, Waiting}
 use Rattle.work.specs.declared.Ending.{Ending}
@@ -70,7 +72,7 @@ Fits (OfSize Long) (TwoWords v) = v ≤ 0xFFFFFFFF
 
 -- the work is done
 abbrev pub endedIn : Ending → Scene → State
-endedIn e s = stateOf (s .board) (record { phase = phaseAfter e; chain = s .chain; pointer = s .pointer; next = firstReply e }) (s .memory)
+endedIn e s = stateOf (s .board) (placeWith freshPlace (phaseAfter e) (s .chain) (s .pointer) (firstReply e)) (s .memory)
 
 last-closes : (kind : ResultKind) (reader : Reader) (s : Scene) (reply : ℕ) (outcome : Outcome)
     → done reader ≡ false → afterReply kind reader reply ≡ Closed outcome

@@ -13,16 +13,14 @@ use Rattle.requests.specs.declared.Request.{Request}
 use Rattle.requests.specs.declared.Request.the-variants.{Rdreg, Wdreg, Read, Write, Dump, Fill, Go, Nop, SyncPc, Rcreg, Wcreg, Rdmreg, Wdmreg}
 use Rattle.readings.specs.declared.Outcome.the-variants.{Complete}
 use Rattle.pod_laws.specs.MeantCommand.{debugRows}
+use Rattle.board.specs.Setters.{withW}
 use Rattle.round_trip.specs.Meaning.{Scene, Meaning, ends, meaning, reads, writes}
 use Rattle.round_trip.specs.RoundTrip.{legalThere}
 use Rattle.laws.specs.TestLaws.{by-test}
 
 -- the same with another wait setting
-abbrev boardAtW : ℕ → Board → Board
-boardAtW w b = record { w = w; status = b .status; registers = b .registers; debug = b .debug }
-
 abbrev pub atW : ℕ → Scene → Scene
-atW w s = record { board = boardAtW w (s .board); chain = s .chain; pointer = s .pointer; memory = s .memory }
+atW w s = record { board = withW (s .board) w; chain = s .chain; pointer = s .pointer; memory = s .memory }
 
 abbrev pub meantAtW : ℕ → Meaning → Meaning
 meantAtW w m = record { outcome = m .outcome; leaves = atW w (m .leaves) }
@@ -33,10 +31,10 @@ pub record SameAt (w : ℕ) (request : Request) (s : Scene) : Type 0 where
   -- it answers the same, and leaves the same but for W
   pub meant : meaning request (atW w s) ≡ meantAtW w (meaning request s)
 
-work-at : (w : ℕ) (b : Board) (c : Command) (address value : ℕ) → boardAfter c (boardAtW w b) address value ≡ boardAtW w (boardAfter c b address value)
+work-at : (w : ℕ) (b : Board) (c : Command) (address value : ℕ) → boardAfter c (withW b w) address value ≡ withW (boardAfter c b address value) w
 unfolding controlWritten debugWritten
 work-at w b c address value =
-    each-change (λ change. change (boardAtW w b) ≡ boardAtW w (change b)) address value
+    each-change (λ change. change (withW b w) ≡ withW (change b) w) address value
     (record {
       none = refl;
       csrRead = refl;

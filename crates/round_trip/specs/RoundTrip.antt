@@ -5,6 +5,8 @@ use mathlib.Core.Bool.{Bool, cond}
 use mathlib.Core.List.{List, _++_}
 use lib.ListN.{length, getD, replicate, take, drop}
 use Rattle.command.specs.Reply.{complete, illegal}
+use Rattle.board.specs.Board.{freshPlace}
+use Rattle.board.specs.Setters.{placeWith}
 use Rattle.board.specs.declared.Phase.the-variants.{Rest}
 use Rattle.board.specs.declared.Chain.the-variants.{Off}
 use Rattle.board.specs.declared.Standing.{Standing}
@@ -29,7 +31,7 @@ nops n = replicate n 0
 
 -- a place at rest, with what stands there and the reply it holds
 abbrev pub resting : Scene → ℕ → State
-resting s next = stateOf (s .board) (record { phase = Rest; chain = s .chain; pointer = s .pointer; next = next }) (s .memory)
+resting s next = stateOf (s .board) (placeWith freshPlace Rest (s .chain) (s .pointer) next) (s .memory)
 
 abbrev pub sceneOf : State → Scene
 sceneOf s = record { board = s .board; chain = s .place .chain; pointer = s .place .pointer; memory = s .memory }
