@@ -87,12 +87,14 @@ pub record P4 (b : Board) : Type 0 where
 
 -- the event that fires nothing changes nothing
 p4-passes : (w : ℕ) → leb w 15 ≡ true → after (p4Set w) p4Outside ≡ p4Set w
-unfolding freshBoard freshPlace inRange bstatInRange agree levelOf pcGroup addressGroup joined fires firedLevel bstatAfter responds firing statusAfter eventVerdict
+unfolding freshBoard freshPlace inRange bstatInRange agree levelOf pcGroup addressGroup joined fires firedLevel bstatAfter responds firing statusAfter
+    eventVerdict
 p4-passes w allowed = rw allowed
 
 -- the other halts
 p4-fires : (w : ℕ) → leb w 15 ≡ true → after (p4Set w) p4Inside ≡ withStatus (p4Set w) (withBstat (withTrg (withHalted (p4Set w .status) true) true) 2)
-unfolding freshBoard freshPlace inRange bstatInRange agree levelOf pcGroup addressGroup joined fires firedLevel bstatAfter responds firing statusAfter eventVerdict
+unfolding freshBoard freshPlace inRange bstatInRange agree levelOf pcGroup addressGroup joined fires firedLevel bstatAfter responds firing statusAfter
+    eventVerdict
 p4-fires w allowed = rw allowed
 
 p4-answers : (w : ℕ) → leb w 15 ≡ true → (answered (p4Set w) p4Outside ≡ fired 0 false) × (answered (p4Set w) p4Inside ≡ fired 1 true)
@@ -136,13 +138,13 @@ self n = eq-eqb n n refl
 
 module _ (w pbr ablr lanes : ℕ) (allowed : leb w 15 ≡ true) (even : eqb (pbr % 2) 0 ≡ true) where
   p5-one : after (p5Set 1 w pbr ablr) (p5Event pbr ablr lanes) ≡ p5Set 5 w pbr ablr
-  unfolding freshBoard freshPlace inRange bstatInRange agree levelOf pcGroup addressMatches attributeAgrees dataEnabled addressGroup joined fires firedLevel bstatAfter
-      responds firing statusAfter eventVerdict
+  unfolding freshBoard freshPlace inRange bstatInRange agree levelOf pcGroup addressMatches attributeAgrees dataEnabled addressGroup joined fires firedLevel
+      bstatAfter responds firing statusAfter eventVerdict
   p5-one = rw (allowed, even, self (bitOr pbr 0))
 
   p5-two : after (p5Set 5 w pbr ablr) (p5Event pbr ablr lanes) .status .bstat ≡ 6
-  unfolding freshBoard freshPlace inRange bstatInRange agree levelOf pcGroup addressMatches attributeAgrees dataEnabled addressGroup joined fires firedLevel bstatAfter
-      responds firing statusAfter eventVerdict
+  unfolding freshBoard freshPlace inRange bstatInRange agree levelOf pcGroup addressMatches attributeAgrees dataEnabled addressGroup joined fires firedLevel
+      bstatAfter responds firing statusAfter eventVerdict
   p5-two = rw (allowed, even, self ablr)
 
 -- "twice it gives BSTAT 5, then 6"
