@@ -29,9 +29,9 @@ use Rattle.bus.specs.EventAnswers.{EventTold, toldEvent}
 use Rattle.bus.specs.Events.{eventVerdict, eventOutcome, boardAfterEvent}
 
 -- a debug register to be written
-pub record Setting : Type 0 where
-  pub register : DebugRegister
-  pub value : ℕ
+record Setting : Type 0 where
+  register : DebugRegister
+  value : ℕ
 
 abbrev setting : DebugRegister → ℕ → Setting
 setting r v = record { register = r; value = v }
@@ -51,7 +51,7 @@ abbrev pub fired : ℕ → Bool → EventTold
 fired level halts = record { refusal = noRefusal; level = level; halted = halts; interrupt = false; captured = [] }
 
 -- "P4: PBR 0x1000, PBMR 0xF, TDR 0x40002002, GO: PC 0x1010 doesn't fire, 0x100E does; CSR is 0x24100000."
-abbrev pub p4Settings : List Setting
+abbrev p4Settings : List Setting
 p4Settings = setting Pbr 0x1000 ∷ setting Pbmr 0xF ∷ setting Tdr 0x40002002 ∷ []
 
 abbrev pub p4Outside : Event
@@ -114,7 +114,7 @@ pub p4 : (w : ℕ) → leb w 15 ≡ true → P4 (p4Board w)
 p4 w allowed = subst P4 (sym (p4-set w)) (p4-of-set w allowed)
 
 -- "P5: running, AATR 0x0005, TDR 0x20042002": and a PBR and an ABLR
-abbrev pub p5Settings : ℕ → ℕ → List Setting
+abbrev p5Settings : ℕ → ℕ → List Setting
 p5Settings pbr ablr = setting Pbr pbr ∷ setting Ablr ablr ∷ setting Aatr 0x0005 ∷ setting Tdr 0x20042002 ∷ []
 
 abbrev p5Board : ℕ → ℕ → ℕ → Board

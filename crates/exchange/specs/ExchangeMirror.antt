@@ -1,7 +1,7 @@
 -- What the code makes of a reader, and what the types of its parameters give, beyond the ranges of ground 12.
 use Prim.Native.Nat.{ℕ, _^_, _<_}
 use Rattle.grounds.specs.declared.Ground.the-variants.{ImpossibleReply}
-use Rattle.memory.specs.MemoryLaws.{AllBelow}
+use Rattle.memory.specs.Memory.{AllBelow}
 use Rattle.board.specs.declared.Phase.{Phase}
 use Rattle.board.specs.declared.Phase.the-variants.{Rest, Due, Waiting, Upper}
 use Rattle.board.specs.State.{State}

@@ -8,8 +8,8 @@ use lib.ListN.{length, getD, drop, replicate}
 use borrow.Author.Tests.{le-leb}
 use Rattle.board.specs.State.{State}
 use Rattle.port.specs.declared.Answer.{Answer}
-use Rattle.port.specs.Packet.{PacketMeets}
-use Rattle.port.specs.PacketLaws.{Stepped, accepted-takes-its-step, no-other}
+use Rattle.port.specs.Packet.{PacketMeets, Stepped}
+use Rattle.port.specs.PacketLaws.{accepted-takes-its-step, no-other}
 use Rattle.sound.specs.Sound.{Sound}
 use Rattle.sound.specs.SoundLaws.{sound-is-in-range}
 use Rattle.requests.specs.declared.Request.{Request}

@@ -1,5 +1,5 @@
 -- Packets (01): sizes, alignment, and memory, most significant byte first.
-use Prim.Native.Nat.{ℕ, _+_, _-_, _*_, _/_, _%_}
+use Prim.Native.Nat.{ℕ, _+_, _-_, _*_, _/_, _%_, _<_}
 use mathlib.Core.Bool.{Bool, cond}
 use mathlib.Core.List.{List}
 use lib.ListN.{length, getD, set}
@@ -48,3 +48,7 @@ putAt memory Long at value = putWord (putWord memory at (value / 65536)) (at + 2
 -- ".. and alters nothing"
 unfoldable pub stored : List ℕ → Size → ℕ → ℕ → List ℕ
 stored memory size address value = cond (present memory size address) (putAt memory size (aligned size address) value) memory
+
+-- every element of a list is below a bound
+abbrev pub AllBelow : ℕ → List ℕ → Type 0
+AllBelow k l = (i : ℕ) → getD l i 0 < k

@@ -7,11 +7,7 @@ use Rattle.laws.specs.TestLaws.{either}
 use lib.ListN.{length, getD, set, length-set}
 use Rattle.memory.specs.declared.Size.{Size}
 use Rattle.memory.specs.declared.Size.the-variants.{Byte, Word, Long}
-use Rattle.memory.specs.Memory.{aligned, present, valueAt, putAt, putWord, stored}
-
--- every element of a list is below a bound
-abbrev pub AllBelow : ℕ → List ℕ → Type 0
-AllBelow k l = (i : ℕ) → getD l i 0 < k
+use Rattle.memory.specs.Memory.{AllBelow, aligned, present, valueAt, putAt, putWord, stored}
 
 pub set-keeps-below : (k : ℕ) (l : List ℕ) (j x : ℕ) → AllBelow k l → x < k → AllBelow k (set l j x)
 set-keeps-below k [] j x h f i = h i

@@ -1,5 +1,6 @@
 -- Laws of reading: it is "not yet" until, and only until, the closing reply is in, and what comes after that changes nothing.
 use Prim.Native.Nat.{ℕ, zero, suc, _+_, _≤_, _<_}
+use native.Mathlib.Nat.{zero-add}
 use native.Mathlib.Omega.{arith}
 use mathlib.Core.Path.{_≡_, refl, sym, ap, _∙_}
 use mathlib.Core.Bool.{true, false, cond}
@@ -58,6 +59,24 @@ done-further k d (x ∷ xs) ys h = same-before k d x (xs ++ ys) xs (done-further
 -- once the closing reply is in, further replies change nothing
 pub further-replies : (k : ResultKind) (xs ys : List ℕ) → done (afterReplies k First xs) ≡ true → readingOf k (xs ++ ys) ≡ readingOf k xs
 further-replies k xs ys h = let same = done-further k First xs ys h in rw (same .0, same .1)
+
+after-append : (k : ResultKind) (d : Reader) (xs ys : List ℕ) → afterReplies k d (xs ++ ys) ≡ afterReplies k (afterReplies k d xs) ys
+after-append k d [] ys = refl
+after-append k d (x ∷ xs) ys = after-append k (afterReply k d x) xs ys
+
+used-append : (k : ResultKind) (d : Reader) (xs ys : List ℕ) → used k d (xs ++ ys) ≡ used k d xs + used k (afterReplies k d xs) ys
+used-append k d [] ys = sym (zero-add (used k d ys))
+used-append k d (x ∷ xs) ys =
+    by-test (done d)
+    (λ h. rw (h, done-stays k d (x ∷ xs) h, done-uses-none k d ys h))
+    (λ h. rw h (omega (arith, used-append k (afterReply k d x) xs ys)))
+
+-- one reply more, while it is not yet, is one step of the reader
+pub one-more : (k : ResultKind) (rs : List ℕ) (r n : ℕ) → readingOf k rs ≡ NotYet n
+    → readingOf k (rs ++ r ∷ []) ≡ answered (afterReply k (afterReplies k First rs) r) (n + 1)
+one-more k rs r n e =
+    let h = not-yet-open (afterReplies k First rs) (used k First rs) n e in
+    rw (after-append k First rs (r ∷ []), used-append k First rs (r ∷ []), h, open-uses-all k First rs h, not-yet-uses-all k rs n e)
 
 -- a reader that took a word was not done
 took-open : (k : ResultKind) (d : Reader) (rs : List ℕ) → 0 < used k d rs → done d ≡ false

@@ -4,10 +4,11 @@ use mathlib.Core.Path.{_≡_}
 use mathlib.Core.List.{List, [], _∷_}
 use lib.Dec.{leb}
 use lib.ListN.{length}
+use Rattle.grounds.specs.declared.Ground.{Ground}
 use Rattle.grounds.specs.declared.Ground.the-variants.{WordTooLarge, MemoryTooLong, StateOutOfRange}
 use Rattle.grounds.specs.declared.Verdict.{Verdict}
 use Rattle.grounds.specs.declared.Verdict.the-variants.{Accepted, Refused}
-use Rattle.grounds.specs.Grounds.{check, judge, Refusal, noRefusal, refusalOf, ifAccepted}
+use Rattle.grounds.specs.Grounds.{number, check, judge, Refusal, noRefusal, refusalOf, ifAccepted}
 use Rattle.board.specs.Ranges.{inRange}
 use Rattle.board.specs.State.{State, stateOf}
 use Rattle.step.specs.Step.{replyNow, stepped}
@@ -42,3 +43,14 @@ pub record PacketMeets (s : State) (word : ℕ) (r : Answer) (after : List ℕ) 
   pub answer : toldPacket (r .outcome) ≡ toldPacket (answered (packetVerdict s word) (replyNow (s .place)))
   -- the board, the place and memory after its input is taken; as given where it is refused
   pub state : stateOf (r .board) (r .place) after ≡ ifAccepted (packetVerdict s word) (stepped s word) s
+
+-- "A refusal returns its number, .. state, memory and result buffers stay as given."
+pub record Unaltered (s : State) (g : Ground) (r : Answer) (after : List ℕ) : Type 0 where
+  pub numbered : toldPacket (r .outcome) .refusal .number ≡ number g
+  pub state : stateOf (r .board) (r .place) after ≡ s
+
+-- an accepted packet replies from the state before it, and takes its step
+pub record Stepped (s : State) (word : ℕ) (r : Answer) (after : List ℕ) : Type 0 where
+  pub unrefused : toldPacket (r .outcome) .refusal .number ≡ 0
+  pub reply : toldPacket (r .outcome) .reply ≡ replyNow (s .place)
+  pub state : stateOf (r .board) (r .place) after ≡ stepped s word

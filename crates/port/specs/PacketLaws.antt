@@ -8,27 +8,14 @@ use borrow.Author.Tests.{le-leb, lt-leb}
 use Rattle.grounds.specs.declared.Ground.{Ground}
 use Rattle.grounds.specs.declared.Ground.the-variants.{WordTooLarge, MemoryTooLong, StateOutOfRange}
 use Rattle.grounds.specs.declared.Verdict.the-variants.{Accepted, Refused}
-use Rattle.grounds.specs.Grounds.{number}
 use Rattle.board.specs.Ranges.{inRange}
-use Rattle.board.specs.State.{State, stateOf}
-use Rattle.step.specs.Step.{replyNow, stepped}
+use Rattle.board.specs.State.{State}
 use Rattle.port.specs.declared.Answer.{Answer}
-use Rattle.port.specs.Packet.{packetVerdict, PacketTold, toldPacket, PacketMeets}
-
--- "A refusal returns its number, .. state, memory and result buffers stay as given."
-pub record Unaltered (s : State) (g : Ground) (r : Answer) (after : List ℕ) : Type 0 where
-  pub numbered : toldPacket (r .outcome) .refusal .number ≡ number g
-  pub state : stateOf (r .board) (r .place) after ≡ s
+use Rattle.port.specs.Packet.{packetVerdict, PacketTold, PacketMeets, Unaltered, Stepped}
 
 pub refusal-changes-nothing : {s : State} {word : ℕ} {r : Answer} {after : List ℕ} (g : Ground)
     → PacketMeets s word r after → packetVerdict s word ≡ Refused g → Unaltered s g r after
 refusal-changes-nothing g f e = record { numbered = ap (λ (t : PacketTold). t .refusal .number) (f .answer) ∙ rw e; state = f .state ∙ rw e }
-
--- an accepted packet replies from the state before it, and takes its step
-pub record Stepped (s : State) (word : ℕ) (r : Answer) (after : List ℕ) : Type 0 where
-  pub unrefused : toldPacket (r .outcome) .refusal .number ≡ 0
-  pub reply : toldPacket (r .outcome) .reply ≡ replyNow (s .place)
-  pub state : stateOf (r .board) (r .place) after ≡ stepped s word
 
 pub accepted-takes-its-step : {s : State} {word : ℕ} {r : Answer} {after : List ℕ}
     → PacketMeets s word r after → packetVerdict s word ≡ Accepted → Stepped s word r after

@@ -1,11 +1,10 @@
 -- What the desk checks by eye (01): P1 to P9 in one statement, proved from the definitions by computation.
-use Prim.Native.Nat.{ℕ, _+_, _/_, _%_}
+use Prim.Native.Nat.{ℕ, _/_, _%_}
 use mathlib.Core.Path.{_≡_, refl}
 use mathlib.Core.Bool.{true, false}
 use mathlib.Core.List.{List, [], _∷_, _++_}
 use Rattle.memory.specs.Memory.{fetched, stored}
-use Rattle.command.specs.Command.{decoded, decodedWord, debugNumber}
-use Rattle.command.specs.Reply.{complete}
+use Rattle.command.specs.Command.{decoded, decodedWord}
 use Rattle.board.specs.Board.{freshBoard, freshPlace}
 use Rattle.board.specs.Ranges.{inRange, bstatInRange}
 use Rattle.board.specs.State.{State}
@@ -23,7 +22,7 @@ use Rattle.trigger.specs.Fired.{fires, firedLevel}
 use Rattle.bus.specs.Firing.{bstatAfter, responds, firing, seen, statusAfter}
 use Rattle.bus.specs.EventAnswers.{EventTold, toldEvent}
 use Rattle.bus.specs.Events.{eventVerdict, eventOutcome}
-use Rattle.bus.specs.EventExamples.{Setting, fired, p4Settings, p4Outside, p4Inside, p4Csr, p5Settings, p5Event}
+use Rattle.bus.specs.EventExamples.{fired, p4Outside, p4Inside, p4Csr, p5Event}
 use Rattle.run.specs.PacketExamples.{sixteen, p1Words, p1Replies, p2Words, p2Replies, p3Words, p3Replies, p6Words, p6Replies, p7Words, p7Replies, p8Words}
 use Rattle.run.specs.PacketExamples.{p8Replies}
 use Rattle.cycle.specs.Cycle.{givesOwn, after as afterCycle, carriedInto, value}
@@ -44,21 +43,16 @@ bytesToF = lent sixteen refl
 abbrev pub onFresh : ℕ → Lent → List ℕ → List ℕ
 onFresh w m words = replies (made w) (sends m words)
 
--- WDMREG as packets: the command word, then the value, upper word first
-abbrev pub wdmregs : List Setting → List ℕ → List ℕ
-wdmregs [] words = words
-wdmregs (s ∷ ss) words = (0x2C80 + debugNumber (s .register)) ∷ (s .value / 65536) ∷ (s .value % 65536) ∷ wdmregs ss words
-
 abbrev pub toldOf : State → Event → EventTold
 toldOf s e = toldEvent (eventOutcome (s .board) (s .place) e)
 
--- the registers written, then GO, all sent as packets
+-- WDMREG of PBR, PBMR and TDR, then GO, as packets
 abbrev pub p4Calls : List Call
-p4Calls = sends noMemory (wdmregs p4Settings (0x0C00 ∷ []))
+p4Calls = sends noMemory (0x2C88 ∷ 0 ∷ 0x1000 ∷ 0x2C89 ∷ 0 ∷ 0xF ∷ 0x2C87 ∷ 0x4000 ∷ 0x2002 ∷ 0x0C00 ∷ [])
 
--- with a PBR and an ABLR
+-- WDMREG of PBR, ABLR, AATR and TDR, then GO
 abbrev pub p5Calls : List Call
-p5Calls = sends noMemory (wdmregs (p5Settings 0x1000 0x2000) (0x0C00 ∷ []))
+p5Calls = sends noMemory (0x2C88 ∷ 0 ∷ 0x1000 ∷ 0x2C8D ∷ 0 ∷ 0x2000 ∷ 0x2C86 ∷ 0 ∷ 0x0005 ∷ 0x2C87 ∷ 0x2004 ∷ 0x2002 ∷ 0x0C00 ∷ [])
 
 abbrev pub p5Seen : Call
 p5Seen = event (p5Event 0x1000 0x2000 0)
@@ -76,7 +70,7 @@ pub record ByEye : Type 0 where
   pub p4-inside : toldOf (after standIn (made 0) (p4Calls ++ (event p4Outside ∷ []))) p4Inside ≡ fired 1 true
   -- CSR is 0x24100000, read as packets.
   pub p4-csr : replies (after standIn (made 0) (p4Calls ++ (event p4Outside ∷ event p4Inside ∷ []))) (sends noMemory (0x2D80 ∷ 0 ∷ 0 ∷ []))
-      ≡ complete ∷ p4Csr / 65536 ∷ p4Csr % 65536 ∷ []
+      ≡ 0x0FFFF ∷ p4Csr / 65536 ∷ p4Csr % 65536 ∷ []
   -- P5: the event twice gives BSTAT 5,
   pub p5-first : after standIn (made 0) (p5Calls ++ (p5Seen ∷ [])) .board .status .bstat ≡ 5
   -- then 6.

@@ -10,8 +10,7 @@ use Rattle.board.specs.Board.{MakingMeets}
 use Rattle.board.specs.State.{State, stateOf}
 use Rattle.trigger.specs.declared.Event.{Event}
 use Rattle.port.specs.declared.Answer.{Answer}
-use Rattle.port.specs.Packet.{packetVerdict, PacketMeets}
-use Rattle.port.specs.PacketLaws.{Unaltered, Stepped}
+use Rattle.port.specs.Packet.{packetVerdict, PacketMeets, Unaltered, Stepped}
 use Rattle.bus.specs.declared.EventAnswer.{EventAnswer}
 use Rattle.bus.specs.declared.BreakpointAnswer.{BreakpointAnswer}
 use Rattle.bus.specs.Events.{eventVerdict, breakpointVerdict, EventMeets, BreakpointMeets}

@@ -3,7 +3,7 @@ use Prim.Native.Nat.{ℕ, _≤_}
 use mathlib.Core.List.{List, [], _∷_}
 use lib.ListN.{length}
 use Rattle.grounds.specs.Grounds.{ifAccepted}
-use Rattle.memory.specs.MemoryLaws.{AllBelow}
+use Rattle.memory.specs.Memory.{AllBelow}
 use Rattle.board.specs.Board.{freshBoard, freshPlace}
 use Rattle.board.specs.State.{State, stateOf}
 use Rattle.trigger.specs.declared.Event.{Event}

@@ -4,7 +4,7 @@ use mathlib.Core.Path.{_≡_, refl}
 use mathlib.Core.Bool.{Bool, true, _&&_}
 use mathlib.Core.List.{List, [], _∷_, map}
 use lib.Dec.{ltb}
-use Rattle.memory.specs.MemoryLaws.{AllBelow}
+use Rattle.memory.specs.Memory.{AllBelow}
 use native.Mathlib.Omega.{arith}
 use borrow.Author.Tests.{ltb-true}
 use Rattle.laws.specs.TestLaws.{both-hold}

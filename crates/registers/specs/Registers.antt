@@ -47,22 +47,22 @@ abbrev pub generalWritten : Board → ℕ → ℕ → Board
 generalWritten b n v = withRegisters b (withGeneral (b .registers) (set (b .registers .general) (n % 16) v))
 
 -- a register is known by its number
-abbrev pub is : DebugRegister → DebugRegister → Bool
-is r s = eqb (debugNumber r) (debugNumber s)
+abbrev pub is : ℕ → DebugRegister → Bool
+is n r = eqb n (debugNumber r)
 
 -- "AATR keeps the low 16 bits, BAAR the low 8. Writing AATR also loads BAAR with its low byte."
-unfoldable pub debugLoaded : DebugRegister → ℕ → Debug → Debug
-debugLoaded r v d = record {
-  csr = cond (is r Csr) (csrWritten v) (d .csr);
-  baar = cond (is r Baar || is r Aatr) (v % 2 ^ 8) (d .baar);
-  aatr = cond (is r Aatr) (v % 2 ^ 16) (d .aatr);
-  tdr = cond (is r Tdr) v (d .tdr);
-  pbr = cond (is r Pbr) v (d .pbr);
-  pbmr = cond (is r Pbmr) v (d .pbmr);
-  abhr = cond (is r Abhr) v (d .abhr);
-  ablr = cond (is r Ablr) v (d .ablr);
-  dbr = cond (is r Dbr) v (d .dbr);
-  dbmr = cond (is r Dbmr) v (d .dbmr);
+unfoldable pub debugLoaded : ℕ → ℕ → Debug → Debug
+debugLoaded n v d = record {
+  csr = cond (is n Csr) (csrWritten v) (d .csr);
+  baar = cond (is n Baar || is n Aatr) (v % 2 ^ 8) (d .baar);
+  aatr = cond (is n Aatr) (v % 2 ^ 16) (d .aatr);
+  tdr = cond (is n Tdr) v (d .tdr);
+  pbr = cond (is n Pbr) v (d .pbr);
+  pbmr = cond (is n Pbmr) v (d .pbmr);
+  abhr = cond (is n Abhr) v (d .abhr);
+  ablr = cond (is n Ablr) v (d .ablr);
+  dbr = cond (is n Dbr) v (d .dbr);
+  dbmr = cond (is n Dbmr) v (d .dbmr);
 }
 
 -- "A TDR write sets BSTAT to 1 if level 1's EBL is set, else 0." EBL is bit 13
@@ -70,7 +70,8 @@ abbrev pub armed : Status → ℕ → Status
 armed s v = withBstat s (v / 2 ^ 13 % 2)
 
 unfoldable pub debugWritten : Board → DebugRegister → ℕ → Board
-debugWritten b r v = withStatus (withDebug b (debugLoaded r v (b .debug))) (cond (is r Tdr) (armed (b .status) v) (b .status))
+debugWritten b r v =
+    withStatus (withDebug b (debugLoaded (debugNumber r) v (b .debug))) (cond (is (debugNumber r) Tdr) (armed (b .status) v) (b .status))
 
 -- what a command shows: a longword, or nothing where the register is not listed
 abbrev pub shown : Source → Board → ℕ → Fetch

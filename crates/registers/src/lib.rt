@@ -3,6 +3,7 @@ ghost use mathlib.Core.Path.{_≡_};
 ghost use Prim.Native.Nat.{_%_, _≤_};
 ghost use lib.ListN.{getD};
 ghost use Rattle.command.specs.declared.DebugRegister.the-variants.{Tdr};
+ghost use Rattle.command.specs.Command.{debugNumber};
 ghost use Rattle.registers.specs.Csr.{flag, csrWritten, csrValue, bstatRead, afterCsrRead, afterGo, afterSyncPc};
 ghost use Rattle.registers.specs.Registers.{controlIndex, controlListed, controlFetched, controlWritten, generalWritten, boardAfter};
 ghost use Rattle.registers.specs.Registers.{is, armed, debugLoaded, debugWritten};
@@ -161,7 +162,7 @@ fn set_general(board: Board, n: u32, value: u32) -> Board
 }
 
 fn write_debug(debug: Debug, register: DebugRegister, value: u32) -> Debug
-    ensures { λ r. ⌜ r ≡ debugLoaded register value debug ⌝ }
+    ensures { λ r. ⌜ r ≡ debugLoaded (debugNumber register) value debug ⌝ }
 {
     let mut d = debug;
     match register {
@@ -201,7 +202,7 @@ fn write_debug(debug: Debug, register: DebugRegister, value: u32) -> Debug
 }
 
 fn is_tdr(register: DebugRegister) -> bool
-    ensures { λ r. ⌜ r ≡ is register Tdr ⌝ }
+    ensures { λ r. ⌜ r ≡ is (debugNumber register) Tdr ⌝ }
 {
     match register {
         DebugRegister::Csr => false,

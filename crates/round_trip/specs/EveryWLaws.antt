@@ -1,20 +1,14 @@
 -- W plays no part in what a request means: in whether it is legal, in what it answers, or in what it leaves.
 use Prim.Native.Nat.{ℕ}
-use mathlib.Core.Path.{_≡_, refl, ap}
+use mathlib.Core.Path.{_≡_, refl}
 use Rattle.memory.specs.declared.Size.{Size}
 use Rattle.memory.specs.Memory.{present}
-use Rattle.command.specs.declared.Command.{Command}
-use Rattle.command.specs.Command.{lookedUp}
-use Rattle.board.specs.declared.Board.{Board}
 use Rattle.registers.specs.Csr.{csrValue}
-use Rattle.registers.specs.Registers.{controlListed, controlWritten, debugWritten, boardAfter}
-use Rattle.registers.specs.ChangeLaws.{each-change}
+use Rattle.registers.specs.Registers.{controlListed}
 use Rattle.requests.specs.declared.Request.{Request}
 use Rattle.requests.specs.declared.Request.the-variants.{Rdreg, Wdreg, Read, Write, Dump, Fill, Go, Nop, SyncPc, Rcreg, Wcreg, Rdmreg, Wdmreg}
-use Rattle.readings.specs.declared.Outcome.the-variants.{Complete}
-use Rattle.pod_laws.specs.MeantCommand.{debugRows}
 use Rattle.board.specs.Setters.{withW}
-use Rattle.round_trip.specs.Meaning.{Scene, Meaning, ends, meaning, reads, writes}
+use Rattle.round_trip.specs.Meaning.{Scene, Meaning, meaning, reads, writes}
 use Rattle.round_trip.specs.RoundTrip.{legalThere}
 use Rattle.laws.specs.TestLaws.{by-test}
 
@@ -30,21 +24,6 @@ pub record SameAt (w : ℕ) (request : Request) (s : Scene) : Type 0 where
   pub legal : legalThere request (atW w s) ≡ legalThere request s
   -- it answers the same, and leaves the same but for W
   pub meant : meaning request (atW w s) ≡ meantAtW w (meaning request s)
-
-work-at : (w : ℕ) (b : Board) (c : Command) (address value : ℕ) → boardAfter c (withW b w) address value ≡ withW (boardAfter c b address value) w
-unfolding controlWritten debugWritten
-work-at w b c address value =
-    each-change (λ change. change (withW b w) ≡ withW (change b) w) address value
-    (record {
-      none = refl;
-      csrRead = refl;
-      general = λ n. refl;
-      control = by-test (controlListed address) (λ h. rw h) (λ h. rw h);
-      debug = λ r. refl;
-      go = refl;
-      syncPc = refl;
-    })
-    c
 
 module _ (w : ℕ) (s : Scene) where
   read-at : (size : Size) (a : ℕ) → reads size a (atW w s) ≡ meantAtW w (reads size a s)
@@ -67,7 +46,7 @@ module _ (w : ℕ) (s : Scene) where
   same-meaning (Rcreg rc) = by-test (controlListed rc) (λ h. rw h) (λ h. rw h)
   same-meaning (Wcreg rc v) = by-test (controlListed rc) (λ h. rw h) (λ h. rw h)
   same-meaning (Rdmreg n) = refl
-  same-meaning (Wdmreg n v) = ap (λ b. ends Complete b (atW w s)) (work-at w (s .board) (lookedUp n debugRows) 0 v)
+  same-meaning (Wdmreg n v) = refl
 
   pub same-at-every-w : (request : Request) → SameAt w request s
   same-at-every-w request = record { legal = refl; meant = same-meaning request }

@@ -5,19 +5,18 @@ use mathlib.Core.List.{List}
 use lib.ListN.{getD, set}
 use Rattle.memory.specs.declared.Size.{Size}
 use Rattle.memory.specs.Memory.{aligned, present, valueAt, putAt}
-use Rattle.command.specs.Command.{lookedUp}
+use Rattle.command.specs.declared.DebugRegister.the-variants.{Tdr}
 use Rattle.board.specs.declared.Board.{Board}
 use Rattle.board.specs.declared.Chain.{Chain}
 use Rattle.board.specs.declared.Chain.the-variants.{Off, Dumping, Filling}
 use Rattle.registers.specs.Csr.{csrValue, afterCsrRead, afterGo, afterSyncPc}
-use Rattle.board.specs.Setters.{withStatus, withRegisters, withGeneral, withControl}
-use Rattle.registers.specs.Registers.{controlIndex, controlListed, boardAfter}
+use Rattle.board.specs.Setters.{withStatus, withRegisters, withDebug, withGeneral, withControl}
+use Rattle.registers.specs.Registers.{controlIndex, controlListed, is, armed, debugLoaded}
 use Rattle.work.specs.Access.{past}
 use Rattle.requests.specs.declared.Request.{Request}
 use Rattle.requests.specs.declared.Request.the-variants.{Rdreg, Wdreg, Read, Write, Dump, Fill, Go, Nop, SyncPc, Rcreg, Wcreg, Rdmreg, Wdmreg}
 use Rattle.readings.specs.declared.Outcome.{Outcome}
 use Rattle.readings.specs.declared.Outcome.the-variants.{Value, Complete, BusError}
-use Rattle.pod_laws.specs.MeantCommand.{debugRows}
 
 -- all that a request finds and leaves
 pub record Scene : Type 0 where
@@ -72,9 +71,10 @@ writesControl rc value s =
 abbrev pub withRegister : Board → ℕ → ℕ → Board
 withRegister b register value = withRegisters b (withGeneral (b .registers) (set (b .registers .general) register value))
 
--- the debug register that is listed under n written
+-- the debug register of number n written; "A TDR write sets BSTAT"
 abbrev pub withDebugRegister : Board → ℕ → ℕ → Board
-withDebugRegister b n value = boardAfter (lookedUp n debugRows) b 0 value
+withDebugRegister b n value =
+    withStatus (withDebug b (debugLoaded n value (b .debug))) (cond (is n Tdr) (armed (b .status) value) (b .status))
 
 -- what each request answers and leaves where its command word is legal
 abbrev pub meaning : Request → Scene → Meaning

@@ -6,14 +6,14 @@ use mathlib.Core.Bool.{Bool, true, false}
 use lib.Bits.{and-le-r}
 use Rattle.memory.specs.declared.Size.{Size}
 use Rattle.memory.specs.declared.Size.the-variants.{Byte, Word, Long}
-use Rattle.memory.specs.Memory.{aligned, present, valueAt, fetched, stored}
-use Rattle.memory.specs.MemoryLaws.{AllBelow, limit, value-within}
+use Rattle.memory.specs.Memory.{AllBelow, aligned, present, valueAt, fetched, stored}
+use Rattle.memory.specs.MemoryLaws.{limit, value-within}
 use Rattle.command.specs.declared.DebugRegister.{DebugRegister}
 use Rattle.command.specs.declared.Command.{Command}
 use Rattle.command.specs.declared.Command.the-variants.{Unknown, Load, Store}
 use Rattle.command.specs.declared.Base.{Base}
 use Rattle.command.specs.Command as command
-use Rattle.command.specs.Command.{lookedUp}
+use Rattle.command.specs.Command.{lookedUp, debugNumber}
 use Rattle.board.specs.declared.Board.{Board}
 use Rattle.board.specs.declared.Chain.{Chain}
 use Rattle.work.specs.declared.Access.the-variants.{Fetched}
@@ -137,7 +137,7 @@ pub debug-meant : (n v a : ℕ) (s : Scene) → (lookedUp n debugRows ≡ Unknow
     → Meant (lookedUp n debugRows) a v NoResult s (meaning (Wdmreg n v) s)
 unfolding debugWritten
 debug-meant n v a s known =
-    found-debug (λ k c. Meant c a v NoResult s (ends Complete (boardAfter c (s .board) 0 v) s)) n written known
+    found-debug (λ k c. Meant c a v NoResult s (meaning (Wdmreg k v) s)) n written known
   where
-    written : (r : DebugRegister) → Meant (command.wdmreg r) a v NoResult s (ends Complete (debugWritten (s .board) r v) s)
+    written : (r : DebugRegister) → Meant (command.wdmreg r) a v NoResult s (meaning (Wdmreg (debugNumber r) v) s)
     written r = record { outcome = refl; leaves = refl; fits = λ f. tt }

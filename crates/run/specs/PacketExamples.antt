@@ -1,10 +1,10 @@
--- What the desk checks by eye (01): the words sent and the replies due of P1, P2, P3, P6, P7 and P8, computed from the definitions.
+-- What the desk checks by eye (01): the words sent and the replies due of P1, P2, P3, P6, P7 and P8, computed from the definitions. The numbers are
+-- 01's own, and by no name, so that the names are tried too.
 use Prim.Native.Nat.{ℕ}
 use mathlib.Core.Path.{_≡_, refl}
 use mathlib.Core.List.{List, [], _∷_}
 use Rattle.memory.specs.Memory.{fetched, stored}
 use Rattle.command.specs.Command.{decoded, decodedWord}
-use Rattle.command.specs.Reply.{complete, notReady, busError, illegal}
 use Rattle.board.specs.Board.{freshBoard, freshPlace}
 use Rattle.board.specs.State.{State, stateOf}
 use Rattle.registers.specs.Csr.{csrValue, bstatRead}
@@ -25,42 +25,42 @@ abbrev pub p1Words : List ℕ
 p1Words = 0x1980 ∷ 0 ∷ 4 ∷ 0 ∷ 0 ∷ 0 ∷ []
 
 abbrev pub p1Replies : List ℕ
-p1Replies = complete ∷ notReady ∷ notReady ∷ notReady ∷ 0x00405 ∷ 0x00607 ∷ []
+p1Replies = 0x0FFFF ∷ 0x10000 ∷ 0x10000 ∷ 0x10000 ∷ 0x00405 ∷ 0x00607 ∷ []
 
 -- "P2: then .. reply .."
 abbrev pub p2Words : List ℕ
 p2Words = 0x1D00 ∷ 0 ∷ 0 ∷ []
 
 abbrev pub p2Replies : List ℕ
-p2Replies = complete ∷ notReady ∷ 0x00008 ∷ []
+p2Replies = 0x0FFFF ∷ 0x10000 ∷ 0x00008 ∷ []
 
 -- "P3: fresh, RDMREG CSR gives 0x01100000, again 0x00100000."
 abbrev pub p3Words : List ℕ
 p3Words = 0x2D80 ∷ 0 ∷ 0 ∷ 0x2D80 ∷ 0 ∷ 0 ∷ []
 
 abbrev pub p3Replies : List ℕ
-p3Replies = complete ∷ 0x00110 ∷ 0x00000 ∷ complete ∷ 0x00010 ∷ 0x00000 ∷ []
+p3Replies = 0x0FFFF ∷ 0x00110 ∷ 0x00000 ∷ 0x0FFFF ∷ 0x00010 ∷ 0x00000 ∷ []
 
 -- "P6: empty memory: byte READ at 0 closes with 0x10001."
 abbrev pub p6Words : List ℕ
 p6Words = 0x1900 ∷ 0 ∷ 0 ∷ 0 ∷ []
 
 abbrev pub p6Replies : List ℕ
-p6Replies = complete ∷ notReady ∷ notReady ∷ busError ∷ []
+p6Replies = 0x0FFFF ∷ 0x10000 ∷ 0x10000 ∷ 0x10001 ∷ []
 
 -- "P7: FILL after READ is illegal."
 abbrev pub p7Words : List ℕ
 p7Words = 0x1900 ∷ 0 ∷ 4 ∷ 0x1C00 ∷ 0 ∷ []
 
 abbrev pub p7Replies : List ℕ
-p7Replies = complete ∷ notReady ∷ notReady ∷ 0x00004 ∷ illegal ∷ []
+p7Replies = 0x0FFFF ∷ 0x10000 ∷ 0x10000 ∷ 0x00004 ∷ 0x1FFFF ∷ []
 
 -- "P8: 0x19C0 is illegal."
 abbrev pub p8Words : List ℕ
 p8Words = 0x19C0 ∷ 0 ∷ []
 
 abbrev pub p8Replies : List ℕ
-p8Replies = complete ∷ illegal ∷ []
+p8Replies = 0x0FFFF ∷ 0x1FFFF ∷ []
 
 pub p1 : replies p1Words (fresh 1 sixteen) ≡ p1Replies
 unfolding replies stepped freshBoard freshPlace replyNow planFor begun continued collected workAfter decoded decodedWord fetched stored

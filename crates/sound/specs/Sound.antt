@@ -4,7 +4,7 @@ use mathlib.Core.Path.{_≡_}
 use mathlib.Core.Bool.{true}
 use mathlib.Core.List.{List}
 use lib.ListN.{length}
-use Rattle.memory.specs.MemoryLaws.{AllBelow}
+use Rattle.memory.specs.Memory.{AllBelow}
 use Rattle.command.specs.Command.{operandWords, waits}
 use Rattle.board.specs.declared.Board.{Board}
 use Rattle.board.specs.declared.Debug.{Debug}

@@ -8,11 +8,12 @@ use lib.Bits.{and-le-r}
 use lib.ListN.{set, replicate}
 use borrow.Author.Tests.{le-leb}
 use Rattle.laws.specs.TestLaws.{either}
-use Rattle.memory.specs.MemoryLaws.{AllBelow, set-keeps-below}
+use Rattle.memory.specs.Memory.{AllBelow}
+use Rattle.memory.specs.MemoryLaws.{set-keeps-below}
 use Rattle.command.specs.declared.DebugRegister.{DebugRegister}
 use Rattle.command.specs.declared.DebugRegister.the-variants.{Csr, Baar, Aatr, Tdr, Pbr, Pbmr, Abhr, Ablr, Dbr, Dbmr}
 use Rattle.command.specs.declared.Command.{Command}
-use Rattle.command.specs.Command.{operandWords}
+use Rattle.command.specs.Command.{debugNumber, operandWords}
 use Rattle.board.specs.declared.Board.{Board}
 use Rattle.board.specs.declared.Status.{Status}
 use Rattle.board.specs.declared.Debug.{Debug}
@@ -38,20 +39,20 @@ loaded : (k : ℕ) (t : Bool) (x y : ℕ) → x < k → y < k → cond t x y < k
 loaded k true x y f g = f
 loaded k false x y f g = g
 
-debug-keeps : (r : DebugRegister) (v : ℕ) (d : Debug) → v < 2 ^ 32 → DebugWithin d → DebugWithin (debugLoaded r v d)
+debug-keeps : (n v : ℕ) (d : Debug) → v < 2 ^ 32 → DebugWithin d → DebugWithin (debugLoaded n v d)
 unfolding debugLoaded
-debug-keeps r v d f h =
+debug-keeps n v d f h =
     record {
-      csr = loaded (2 ^ 32) (is r Csr) (csrWritten v) (d .csr) (omega (arith, and-le-r v 0x0007FF70)) (h .csr);
-      baar = loaded (2 ^ 8) (is r Baar || is r Aatr) (v % 2 ^ 8) (d .baar) (omega arith) (h .baar);
-      aatr = loaded (2 ^ 16) (is r Aatr) (v % 2 ^ 16) (d .aatr) (omega arith) (h .aatr);
-      tdr = loaded (2 ^ 32) (is r Tdr) v (d .tdr) f (h .tdr);
-      pbr = loaded (2 ^ 32) (is r Pbr) v (d .pbr) f (h .pbr);
-      pbmr = loaded (2 ^ 32) (is r Pbmr) v (d .pbmr) f (h .pbmr);
-      abhr = loaded (2 ^ 32) (is r Abhr) v (d .abhr) f (h .abhr);
-      ablr = loaded (2 ^ 32) (is r Ablr) v (d .ablr) f (h .ablr);
-      dbr = loaded (2 ^ 32) (is r Dbr) v (d .dbr) f (h .dbr);
-      dbmr = loaded (2 ^ 32) (is r Dbmr) v (d .dbmr) f (h .dbmr);
+      csr = loaded (2 ^ 32) (is n Csr) (csrWritten v) (d .csr) (omega (arith, and-le-r v 0x0007FF70)) (h .csr);
+      baar = loaded (2 ^ 8) (is n Baar || is n Aatr) (v % 2 ^ 8) (d .baar) (omega arith) (h .baar);
+      aatr = loaded (2 ^ 16) (is n Aatr) (v % 2 ^ 16) (d .aatr) (omega arith) (h .aatr);
+      tdr = loaded (2 ^ 32) (is n Tdr) v (d .tdr) f (h .tdr);
+      pbr = loaded (2 ^ 32) (is n Pbr) v (d .pbr) f (h .pbr);
+      pbmr = loaded (2 ^ 32) (is n Pbmr) v (d .pbmr) f (h .pbmr);
+      abhr = loaded (2 ^ 32) (is n Abhr) v (d .abhr) f (h .abhr);
+      ablr = loaded (2 ^ 32) (is n Ablr) v (d .ablr) f (h .ablr);
+      dbr = loaded (2 ^ 32) (is n Dbr) v (d .dbr) f (h .dbr);
+      dbmr = loaded (2 ^ 32) (is n Dbmr) v (d .dbmr) f (h .dbmr);
     }
 
 armed-in-range : (v : ℕ) → bstatInRange (v / 2 ^ 13 % 2) ≡ true
@@ -102,10 +103,11 @@ module _ (w : ℕ) (b : Board) (h : SoundBoard w b) where
   debug-write-keeps r v f = record {
     setting = h .setting;
     small = h .small;
-    bstat = either (λ (s : Status). bstatInRange (s .bstat) ≡ true) (is r Tdr) (armed (b .status) v) (b .status) (λ e. armed-in-range v) (λ e. h .bstat);
+    bstat = either (λ (s : Status). bstatInRange (s .bstat) ≡ true) (is (debugNumber r) Tdr) (armed (b .status) v) (b .status) (λ e. armed-in-range v)
+        (λ e. h .bstat);
     general = h .general;
     control = h .control;
-    debug = debug-keeps r v (b .debug) f (h .debug);
+    debug = debug-keeps (debugNumber r) v (b .debug) f (h .debug);
   }
 
   work-keeps-board : (c : Command) (address value : ℕ) → value < 2 ^ 32 → SoundBoard w (boardAfter c b address value)
@@ -158,6 +160,30 @@ module _ (w : ℕ) (s : State) (h : SoundBoard w (s .board)) (k : SoundPlace w (
   unfolding stepped
   packet-keeps-memory word = plan-keeps-memory (planFor (s .board) (s .place) word)
 
+-- ---- W, whatever is held
+control-keeps-w : (b : Board) (n v : ℕ) → controlWritten b n v .w ≡ b .w
+unfolding controlWritten
+control-keeps-w b n v =
+    either (λ (x : Board). x .w ≡ b .w) (controlListed n) (withRegisters b (withControl (b .registers) (set (b .registers .control) (controlIndex n) v))) b
+    (λ e. refl) (λ e. refl)
+
+work-keeps-w : (c : Command) (b : Board) (address value : ℕ) → boardAfter c b address value .w ≡ b .w
+unfolding debugWritten
+work-keeps-w c b a v =
+    each-change (λ change. change b .w ≡ b .w) a v
+    (record { none = refl; csrRead = refl; general = λ n. refl; control = control-keeps-w b a v; debug = λ r. refl; go = refl; syncPc = refl }) c
+
+pub packet-keeps-w : (s : State) (word : ℕ) → stepped s word .board .w ≡ s .board .w
+unfolding stepped
+packet-keeps-w s word = by-plan (planFor (s .board) (s .place) word)
+  where
+    by-plan : (plan : Plan) → left plan s .board .w ≡ s .board .w
+    by-plan (Hold phase) = refl
+    by-plan Reject = refl
+    by-plan (Release low) = refl
+    by-plan (Work c a v) = work-keeps-w c (s .board) a v
+
+-- ---- a state
 pub packet-keeps-sound : {s : State} → Sound s → (word : ℕ) → Sound (stepped s word)
 packet-keeps-sound {s} f word =
     let w = s .board .w in
