@@ -27,10 +27,10 @@ use Rattle.registers.specs.Registers.{controlIndex, controlListed, controlFetch
 use Rattle.requests.specs.declared.Request.the-variants.{Wdmreg}
 use Rattle.requests.specs.declared.ResultKind.{ResultKind}
 use Rattle.requests.specs.declared.ResultKind.the-variants.{NoResult, OfSize}
-use Rattle.readings.specs.declared.Outcome.the-variants.{Value, Complete}
+use Rattle.readings.specs.declared.Outcome.the-variants.{Value}
 use Rattle.pod_laws.specs.MeantCommand.{debugRows}
 use Rattle.pod_laws.specs.RequestCountLaws.{found-debug}
-use Rattle.round_trip.specs.Meaning.{Scene, Meaning, meaning, ends, reads, writes, readsControl, writesControl}
+use Rattle.round_trip.specs.Meaning.{Scene, Meaning, meaning, reads, writes, readsControl, writesControl}
 use Rattle.round_trip.specs.RoundTrip.{sceneOf}
 use Rattle.round_trip.specs.ClosesLaws.{outcomeOf, Fits}
 use Rattle.laws.specs.TestLaws.{by-test}

@@ -1,4 +1,3 @@
-use native.Mathlib.Omega.{arith}
 use Rattle.words.specs.LineWordLaws.{word-from, word-end-bound}
 use borrow.Author.Needs.{needs}
 use Rattle.request_lines.proofs.read_from.Statement.{statement}
