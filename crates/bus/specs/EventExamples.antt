@@ -29,15 +29,15 @@ use Rattle.bus.specs.EventAnswers.{EventTold, toldEvent}
 use Rattle.bus.specs.Events.{eventVerdict, eventOutcome, boardAfterEvent}
 
 -- a debug register to be written
-record Setting : Type 0 where
-  register : DebugRegister
-  value : ℕ
+pub record Setting : Type 0 where
+  pub register : DebugRegister
+  pub value : ℕ
 
-abbrev setting : DebugRegister → ℕ → Setting
+abbrev pub setting : DebugRegister → ℕ → Setting
 setting r v = record { register = r; value = v }
 
 -- the board after they are written, in their order, and GO
-abbrev afterSettings : List Setting → Board → Board
+abbrev pub afterSettings : List Setting → Board → Board
 afterSettings [] b = boardAfter go b 0 0
 afterSettings (s ∷ ss) b = afterSettings ss (boardAfter (wdmreg (s .register)) b 0 (s .value))
 
@@ -114,10 +114,10 @@ pub p4 : (w : ℕ) → leb w 15 ≡ true → P4 (p4Board w)
 p4 w allowed = subst P4 (sym (p4-set w)) (p4-of-set w allowed)
 
 -- "P5: running, AATR 0x0005, TDR 0x20042002": and a PBR and an ABLR
-abbrev p5Settings : ℕ → ℕ → List Setting
+abbrev pub p5Settings : ℕ → ℕ → List Setting
 p5Settings pbr ablr = setting Pbr pbr ∷ setting Ablr ablr ∷ setting Aatr 0x0005 ∷ setting Tdr 0x20042002 ∷ []
 
-abbrev p5Board : ℕ → ℕ → ℕ → Board
+abbrev pub p5Board : ℕ → ℕ → ℕ → Board
 p5Board w pbr ablr = afterSettings (p5Settings pbr ablr) (freshBoard w)
 
 abbrev p5Set : ℕ → ℕ → ℕ → ℕ → Board

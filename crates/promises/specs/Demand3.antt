@@ -1,9 +1,10 @@
 -- Demand 3, "no history strands the port": its promises, one record each, of any machine.
-use Prim.Native.Nat.{ℕ, _+_, _≤_}
+use Prim.Native.Nat.{ℕ, _+_, _≤_, _<_}
 use mathlib.Core.Path.{_≡_}
 use mathlib.Core.Bool.{Bool, true}
 use mathlib.Core.List.{List, [], _∷_, map}
 use lib.ListN.{length}
+use Rattle.grounds.specs.declared.Verdict.the-variants.{Accepted}
 use Rattle.command.specs.Reply.{complete}
 use Rattle.board.specs.declared.Board.{Board}
 use Rattle.board.specs.Ranges.{inRange}
@@ -13,7 +14,8 @@ use Rattle.promises.specs.Machine.{Machine}
 use Rattle.promises.specs.TakenWords.{Word, stage, closing, replyAt, isClosed}
 use Rattle.promises.specs.TakenWords.Closing.{reply}
 use Rattle.promises.specs.Environment.{Found, Trail, trail, begun, handed, underWay, AllFit, AllNops}
-use Rattle.promises.specs.History.{Lent, Call, after, finds, made, Idle, nops}
+use Rattle.promises.specs.History.{Lent, Call, lending, after, finds, made, Idle, nops}
+use Rattle.promises.specs.HeldRegister.{registerHeld}
 
 -- the reply that the rules give next: for the last word, or on a fresh board "next reply 0x0FFFF"
 abbrev pub nextReply : List Word → ℕ
@@ -88,6 +90,10 @@ trailOf k w history = trail k begun (finds k (made w) history)
 pub record NeverStranded (k : Machine) (w : ℕ) (history : List Call) : Type 0 where
   -- The state that it leads to is within the ranges of ground 12.
   pub ranged : inRange (after k (made w) history .board) (after k (made w) history .place) ≡ true
+  -- A command under way holds a register number below 16.
+  pub register : registerHeld (after k (made w) history .place .phase) < 16
+  -- Every packet within its limits is accepted there.
+  pub accepted : (m : Lent) (word : ℕ) → length (m .bytes) ≤ 65536 → word ≤ 0x1FFFF → k .verdict (lending (after k (made w) history) m) word ≡ Accepted
   -- From there NOPs bring the port to rest, whatever memory within the limit each is lent and whatever comes between.
   pub nops : (ms : List Lent) (idle : List Call) → Idle ms idle → NopsBring k w (after k (made w) history) (trailOf k w history) ms idle
 

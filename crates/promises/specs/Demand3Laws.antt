@@ -14,7 +14,8 @@ use Rattle.promises.specs.Demand3.{PlaceRests, NopsBring, trailOf, Never
 use Rattle.sound.specs.Sound.{SoundPlace}
 use Rattle.promises.specs.PlaceClosingLaws.{kept-from-fresh, place-closes}
 use Rattle.promises.specs.PlaceRestLaws.{place-rests-from, place-rests}
-use Rattle.promises.specs.HistoryLaws.{Fits, ranged, fresh-fits, history-fits, finds-fit, place-of-trail}
+use Rattle.promises.specs.HistoryLaws.{Fits, ranged, within-is-accepted, fresh-fits, history-fits, finds-fit, place-of-trail}
+use Rattle.promises.specs.HeldRegisterLaws.{register-below-16}
 use Rattle.promises.specs.IdleLaws.{idle-found, idle-unmoved}
 
 module _ (w : ℕ) (small : w ≤ 15) (history : List Call) where
@@ -48,6 +49,8 @@ module _ (w : ℕ) (small : w ≤ 15) (history : List Call) where
   pub never-stranded : NeverStranded standIn w history
   never-stranded = record {
     ranged = ranged w (after standIn (made w) history) reached;
+    register = register-below-16 w history;
+    accepted = within-is-accepted w (after standIn (made w) history) reached;
     nops = nops-bring;
   }
 

@@ -2,7 +2,7 @@
 use Prim.Native.Nat.{ℕ, _≤_}
 use mathlib.Core.Path.{_≡_, refl, ap}
 use mathlib.Core.Bool.{true}
-use mathlib.Core.List.{List, [], _∷_}
+use mathlib.Core.List.{List, [], _∷_, _++_}
 use lib.Dec.{leb}
 use lib.ListN.{length}
 use borrow.Author.Tests.{leb-true}
@@ -110,6 +110,12 @@ module _ (w : ℕ) where
   unfolding finds
   finds-fit s [] h = none
   finds-fit s (c ∷ cs) h = found-fits w s h c (finds standIn (afterCall standIn s c) cs) (finds-fit (afterCall standIn s c) cs (call-fits w s h c))
+
+-- one history after another
+pub after-both : (s : State) (xs ys : List Call) → after standIn s (xs ++ ys) ≡ after standIn (after standIn s xs) ys
+unfolding after
+after-both s [] ys = refl
+after-both s (x ∷ xs) ys = after-both (afterCall standIn s x) xs ys
 
 -- the place that a history leads to is the place of its trail
 along : (v : Verdict) (s taken : State) (t : Trail) (f : Found) (cs : List Call)

@@ -2,16 +2,13 @@
 use Prim.Native.Nat.{ℕ, zero, suc}
 use mathlib.Core.Path.{_≡_, refl}
 use mathlib.Core.Bool.{Bool, true, _&&_}
-use mathlib.Core.List.{List, [], _∷_, map}
+use mathlib.Core.List.{List, [], _∷_}
 use lib.Dec.{ltb}
 use Rattle.memory.specs.Memory.{AllBelow}
 use native.Mathlib.Omega.{arith}
 use borrow.Author.Tests.{ltb-true}
 use Rattle.laws.specs.TestLaws.{both-hold}
-use Rattle.board.specs.State.{State}
-use Rattle.promises.specs.Machine.{standIn}
-use Rattle.promises.specs.Environment.{Handed, handed}
-use Rattle.promises.specs.History.{Lent, Call, finds}
+use Rattle.promises.specs.History.{Lent, Call}
 use Rattle.promises.specs.History.Call.{packet}
 
 abbrev pub allBytes : List ℕ → Bool
@@ -33,7 +30,3 @@ noMemory = lent [] refl
 abbrev pub sends : Lent → List ℕ → List Call
 sends m [] = []
 sends m (word ∷ words) = packet m word ∷ sends m words
-
--- the replies that they carry out, those that are accepted
-abbrev pub replies : State → List Call → List ℕ
-replies s calls = map (λ (h : Handed). h .reply) (handed standIn (s .place) (finds standIn s calls))

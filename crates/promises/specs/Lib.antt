@@ -2,6 +2,7 @@ pub mod Machine
 pub mod TakenWords
 pub mod Environment
 pub mod History
+pub mod HeldRegister
 pub mod Demand3
 pub mod OperandLaws
 pub mod StageLaws
@@ -11,12 +12,15 @@ pub mod PlaceRestLaws
 pub mod IgnoresStatusLaws
 pub mod SameNopLaws
 pub mod HistoryLaws
+pub mod HeldRegisterLaws
 pub mod IdleLaws
 pub mod Demand3Laws
 pub mod CodeSteps
 pub mod CodeStepsLaws
+pub mod RunHistory
 pub mod RunHistoryLaws
 pub mod LendingLaws
+pub mod SettingLaws
 pub mod ByEyeExamples
 pub mod TightExamples
 pub mod RefutedLaws

@@ -3,8 +3,13 @@ use Prim.Native.Nat.{ℕ, zero, suc, _-_, _≤_}
 use mathlib.Core.Path.{_≡_, sym, ap, _∙_}
 use mathlib.Core.Bool.{Bool, true, false, cond, _&&_, true≢false}
 use mathlib.Core.List.{List, [], _∷_}
-use lib.ListN.{replicate}
+use lib.Dec.{eqb}
+use lib.ListN.{length, replicate}
 use native.Mathlib.Omega.{arith}
+use Rattle.grounds.specs.declared.Ground.the-variants.{WordTooLarge}
+use Rattle.grounds.specs.declared.Verdict.{Verdict}
+use Rattle.grounds.specs.declared.Verdict.the-variants.{Accepted, Refused}
+use Rattle.grounds.specs.Grounds.{told}
 use Rattle.command.specs.Command.{decoded, decodedWord}
 use Rattle.command.specs.Reply.{illegal}
 use Rattle.board.specs.declared.Place.{Place}
@@ -23,8 +28,8 @@ use Rattle.promises.specs.Machine.{Machine, standIn}
 use Rattle.promises.specs.TakenWords.{stage, closing}
 use Rattle.promises.specs.TakenWords.Closing.{reply}
 use Rattle.promises.specs.Environment.{Found, trail, AllFit, AllNops}
-use Rattle.promises.specs.History.{Call, after, finds, made, Idle}
-use Rattle.promises.specs.History.Call.{event}
+use Rattle.promises.specs.History.{Call, lending, after, finds, made, Idle}
+use Rattle.promises.specs.History.Call.{packet, event}
 use Rattle.sound.specs.Sound.{SoundMemory}
 use Rattle.promises.specs.Demand3.{Demand3, PlaceDemand3}
 use Rattle.promises.specs.HistoryLaws.{fresh-fits}
@@ -45,17 +50,65 @@ nops-fit zero = AllNops.done
 nops-fit (suc n) = AllNops.nop (freshBoard 2) [] (fresh-fits 2 (omega arith) .board) no-memory-fits (nops-fit n)
 
 -- A port that is always at rest: whatever else it does, it rests after READ's command word, whose operands are missing.
-pub always-at-rest : (k : Machine) → ((s : State) (word : ℕ) → k .step s word .place .phase ≡ Rest) → PlaceDemand3 k → ⊥
-unfolding freshBoard freshPlace trail stage decoded decodedWord
-always-at-rest k rests d =
-    true≢false
-    (sym (ap atRest (rests (stateOf (freshBoard 2) freshPlace []) 0x1980)) ∙ d .closing 2 (onFresh 0x1980 ∷ []) (one-fits 0x1980 (omega arith)) .rests)
+module _ (k : Machine) (rests : (s : State) (word : ℕ) → k .step s word .place .phase ≡ Rest) where
+  rests-too-soon : atRest (k .step (stateOf (freshBoard 2) freshPlace []) 0x1980 .place .phase) ≡ false → ⊥
+  rests-too-soon e = true≢false (sym (ap atRest (rests (stateOf (freshBoard 2) freshPlace []) 0x1980)) ∙ e)
+
+  pub always-at-rest : Demand3 k → ⊥
+  unfolding freshBoard freshPlace trail finds after stage decoded decodedWord
+  always-at-rest d =
+      let taken : k .verdict (lending (made 2) noMemory) 0x1980 ≡ Accepted = d .rest 2 (omega arith) [] .accepted noMemory 0x1980 (omega arith) (omega arith) in
+      rests-too-soon (rw taken at (d .closing 2 (omega arith) (packet noMemory 0x1980 ∷ []) .closes .rests))
+
+  -- and of a place
+  pub place-always-at-rest : PlaceDemand3 k → ⊥
+  unfolding freshBoard freshPlace trail stage decoded decodedWord
+  place-always-at-rest d = rests-too-soon (d .closing 2 (onFresh 0x1980 ∷ []) (one-fits 0x1980 (omega arith)) .rests)
 
 -- A port that is never at rest again: it replies 0x10000 for ever, or anything else.
-pub never-at-rest : (k : Machine) → ((s : State) (word : ℕ) → atRest (k .step s word .place .phase) ≡ false) → PlaceDemand3 k → ⊥
-unfolding trail
-never-at-rest k moves d =
-    true≢false (sym (d .rest 2 [] (replicate 6 (onFresh 0)) AllFit.none (nops-fit 6) .enough (omega arith)) ∙ moves (stateOf (freshBoard 2) _ []) 0)
+module _ (k : Machine) (moves : (s : State) (word : ℕ) → atRest (k .step s word .place .phase) ≡ false) where
+  pub never-at-rest : Demand3 k → ⊥
+  unfolding after
+  never-at-rest d =
+      let five : List Call = sends noMemory (replicate 5 0) in
+      let taken : k .verdict (lending (after k (made 2) five) noMemory) 0 ≡ Accepted =
+      d .rest 2 (omega arith) five .accepted noMemory 0 (omega arith) (omega arith) in
+      let brought : atRest (after k (after k (made 2) five) (packet noMemory 0 ∷ []) .place .phase) ≡ true =
+      d .rest 2 (omega arith) [] .nops (replicate 6 noMemory) (sends noMemory (replicate 6 0)) six-nops .enough (omega arith) in
+      true≢false (sym (rw taken at brought) ∙ moves (lending (after k (made 2) five) noMemory) 0)
+    where
+      limit : length (noMemory .bytes) ≤ 65536
+      limit = omega arith
+
+      six-nops : Idle (replicate 6 noMemory) (sends noMemory (replicate 6 0))
+      six-nops =
+          Idle.nop noMemory limit (Idle.nop noMemory limit (Idle.nop noMemory limit
+          (Idle.nop noMemory limit (Idle.nop noMemory limit (Idle.nop noMemory limit Idle.none)))))
+
+  -- and of a place
+  pub place-never-at-rest : PlaceDemand3 k → ⊥
+  unfolding trail
+  place-never-at-rest d =
+      true≢false (sym (d .rest 2 [] (replicate 6 (onFresh 0)) AllFit.none (nops-fit 6) .enough (omega arith)) ∙ moves (stateOf (freshBoard 2) _ []) 0)
+
+-- A port that takes NOPs and nothing else: all else that it promises may hold, since nothing is ever under way.
+abbrev pub onlyNops : Machine
+onlyNops = record {
+  verdict = λ s word. cond (eqb word 0) (packetVerdict s word) (Refused WordTooLarge);
+  reply = standIn .reply;
+  step = standIn .step;
+  event = standIn .event;
+  input = standIn .input;
+}
+
+pub refuses-all-but-nops : Demand3 onlyNops → ⊥
+refuses-all-but-nops d =
+    let taken : Refused WordTooLarge ≡ Accepted = d .rest 2 (omega arith) [] .accepted noMemory 1 (omega arith) (omega arith) in
+    let z : _≡_ {A = ℕ} (number-told (Refused WordTooLarge)) (number-told Accepted) = ap number-told taken in
+    omega arith
+  where
+    number-told : Verdict → ℕ
+    number-told v = told v .number
 
 -- An event that moves the phase, or anything else of the place that a history leads to.
 pub event-moves-the-place : (k : Machine) (w : ℕ) → w ≤ 15 → (history : List Call) (e : Event)
