@@ -1,13 +1,11 @@
--- Recorded cycles (01), the walk: the struct that borrows the trace, and its first step.
+-- Recorded cycles (01), the walk: the struct that borrows the trace, its start and its steps.
 use mathlib.Core.Path.{_≡_}
 use Prim.Native.Nat.{ℕ}
-use mathlib.Core.List.{List, [], _∷_}
+use mathlib.Core.List.{List}
 use denote.Ref.{RefT, now}
-use Rattle.cycle.specs.declared.Item.{Item}
-use Rattle.trace.specs.TraceReading.{Told, refusal as asRefusal, counted}
 use Rattle.steps.specs.declared.Cursor.{Cursor}
 use Rattle.steps.specs.declared.Step.{Step}
-use Rattle.steps.specs.WalkStep.{StartMeets, stepOf, ToldStep, item, end, refusal}
+use Rattle.steps.specs.WalkStep.{StartMeets, stepOf}
 use Rattle.walk.specs.declared.Walk.{Walk}
 use Rattle.walk.specs.declared.Stepped.{Stepped}
 
@@ -26,9 +24,3 @@ steppedTo walk step = record { walk = walkAt (walk .trace) (step .cursor); hande
 
 abbrev pub steppedOf : Walk → Stepped
 steppedOf walk = steppedTo walk (stepOf (now (walk .trace)) (walk .cursor))
-
--- what a walk's first step hands out, by how its start is judged and by the items of the listing
-abbrev pub firstHanded : Told → List Item → ToldStep
-firstHanded (asRefusal number cycle) xs = refusal number cycle
-firstHanded (counted n) [] = end
-firstHanded (counted n) (x ∷ xs) = item (x .cycle) (x .code) (x .value)

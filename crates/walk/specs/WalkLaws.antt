@@ -5,7 +5,6 @@ use mathlib.Core.List.{List, [], _∷_, _++_, map}
 use native.Mathlib.Nat.{zero-add, suc-add}
 use native.Mathlib.Omega.{arith}
 use lib.ListN.{length, replicate}
-use denote.Ref.{RefT, now}
 use Rattle.grounds.specs.declared.Ground.{Ground}
 use Rattle.grounds.specs.Grounds.{number}
 use Rattle.cycle.specs.declared.Item.{Item}
@@ -14,7 +13,7 @@ use Rattle.trace.specs.declared.Listing.{Listing}
 use Rattle.trace.specs.declared.Listing.the-variants.{Items, Refused}
 use Rattle.trace.specs.Items.{items}
 use Rattle.trace.specs.ItemsFromLaws.{items-whole}
-use Rattle.trace.specs.TraceReading.{Told, refusal as asRefusal, counted, toldListing, reading}
+use Rattle.trace.specs.TraceReading.{refusal as asRefusal, counted, toldListing, reading}
 use Rattle.trace.specs.TraceReadingLaws.{read-count}
 use Rattle.trace.specs.TraceReadingUnique.{toldListing-unique}
 use Rattle.steps.specs.declared.Cursor.{Cursor}
@@ -22,8 +21,6 @@ use Rattle.steps.specs.declared.Handed.{Handed}
 use Rattle.steps.specs.declared.Handed.the-variants.{Item as oneItem, End as atEnd, Refused as asRefused}
 use Rattle.steps.specs.WalkStep.{StartMeets, stepOf, ToldStep, refusal, toldHanded}
 use Rattle.steps.specs.WalkStepLaws.{step-refused}
-use Rattle.walk.specs.declared.Walk.{Walk}
-use Rattle.walk.specs.Walk.{firstHanded, WalkStarts, steppedOf}
 use Rattle.walk.specs.WalkRestLaws.{rest, none-past, Unrolls, step-unrolls}
 
 -- what so many steps hand out, in their order
@@ -101,27 +98,3 @@ walk-refused trace cursor k i m s e = by-start (cursor .start) refl (s .judged �
         let number-is : number ground ≡ k = cc in
         let cycle-is : cycle ≡ i = cc in
         refused-handed trace cursor ground cycle m f ∙ cc
-
--- the first step hands out the first item of the listing, the end where it has none, or the refusal
-pub first-handed : (trace : List ℕ) (cursor : Cursor) → StartMeets trace cursor
-    → toldHanded (stepOf trace cursor .handed) ≡ firstHanded (reading trace) (items trace)
-unfolding handings
-first-handed trace cursor s = by-reading (reading trace) refl
-  where
-    by-item : (n : ℕ) (xs : List Item) → rest trace cursor ≡ xs → (q : Cursor) (h : Handed) → Unrolls trace (rest trace cursor) q h
-        → toldHanded h ≡ firstHanded (counted n) xs
-    by-item n [] f q (oneItem x) u = let z : _≡_ {A = ℕ} 0 1 = cc in absurd (omega arith)
-    by-item n (y ∷ ys) f q (oneItem x) u = let same : x ≡ y = cc in ap (λ (x : Item). toldHanded (oneItem x)) same
-    by-item n [] f q atEnd u = refl
-    by-item n (y ∷ ys) f q atEnd u = let z : _≡_ {A = ℕ} 0 1 = cc in absurd (omega arith)
-    by-item n xs f q (asRefused ground cycle) u = absurd u
-
-    by-reading : (t : Told) → reading trace ≡ t → toldHanded (stepOf trace cursor .handed) ≡ firstHanded t (items trace)
-    by-reading (asRefusal k i) e = let r = walk-refused trace cursor k i 1 s e in cc
-    by-reading (counted n) e =
-        by-item n (items trace) (start-rest trace cursor s) (stepOf trace cursor .cursor) (stepOf trace cursor .handed)
-        (step-unrolls trace cursor n (start-read trace cursor n s e) .0)
-
-pub walk-first : (trace : RefT (List ℕ)) (w : Walk) → WalkStarts trace w
-    → toldHanded (steppedOf w .handed) ≡ firstHanded (reading (now trace)) (items (now trace))
-walk-first trace w s = ap (λ (v : Walk). toldHanded (steppedOf v .handed)) (s .borrowed) ∙ first-handed (now trace) (w .cursor) (s .started)

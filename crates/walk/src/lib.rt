@@ -1,11 +1,10 @@
 // A walk that borrows the trace and remembers its place, one item a step.
 use steps::Cursor;
 use steps::Handed;
+use steps::Step;
 ghost use mathlib.Core.Path.{_≡_};
-ghost use Rattle.trace.specs.Items.{items};
-ghost use Rattle.trace.specs.TraceReading.{reading};
-ghost use Rattle.steps.specs.WalkStep.{toldHanded};
-ghost use Rattle.walk.specs.Walk.{firstHanded, WalkStarts, steppedOf};
+ghost use Rattle.steps.specs.WalkStep.{StartMeets, stepOf};
+ghost use Rattle.walk.specs.Walk.{WalkStarts, steppedOf};
 
 pub struct Walk<'a> {
     pub trace: &'a [u8],
@@ -37,11 +36,20 @@ pub fn step_walk<'a>(walk: Walk<'a>) -> Stepped<'a>
     }
 }
 
-// The first item of a trace, for callers that keep no walk.
-pub fn first_item(trace: &[u8]) -> Handed
-    ensures { λ r. ⌜ toldHanded r ≡ firstHanded (reading (now (trace .entry))) (items (now (trace .entry))) ⌝ }
+// For callers that keep a cursor and no walk: a walk's start, and one step of the walk at a cursor.
+pub fn start_cursor(trace: &[u8]) -> Cursor
+    ensures { λ r. ⌜ StartMeets (now (trace .entry)) r ⌝ }
 {
     let walk = start_walk(trace);
-    let stepped = step_walk(walk);
-    stepped.handed
+    walk.cursor
+}
+
+pub fn next_item(trace: &[u8], cursor: Cursor) -> Step
+    ensures { λ r. ⌜ r ≡ stepOf (now (trace .entry)) cursor ⌝ }
+{
+    let stepped = step_walk(Walk { trace, cursor });
+    Step {
+        cursor: stepped.walk.cursor,
+        handed: stepped.handed,
+    }
 }
