@@ -1,9 +1,10 @@
 -- Recorded cycles (01), the walk: the struct that borrows the trace, its start and its steps.
 use mathlib.Core.Path.{_≡_}
-use Prim.Native.Nat.{ℕ}
-use mathlib.Core.List.{List}
+use Prim.Native.Nat.{ℕ, zero, suc}
+use mathlib.Core.List.{List, [], _∷_}
 use denote.Ref.{RefT, now}
 use Rattle.steps.specs.declared.Cursor.{Cursor}
+use Rattle.steps.specs.declared.Handed.{Handed}
 use Rattle.steps.specs.declared.Step.{Step}
 use Rattle.steps.specs.WalkStep.{StartMeets, stepOf}
 use Rattle.walk.specs.declared.Walk.{Walk}
@@ -24,3 +25,8 @@ steppedTo walk step = record { walk = walkAt (walk .trace) (step .cursor); hande
 
 abbrev pub steppedOf : Walk → Stepped
 steppedOf walk = steppedTo walk (stepOf (now (walk .trace)) (walk .cursor))
+
+-- what so many steps hand out, in their order, each taken from the walk that the step before it gave back
+unfoldable pub handedOut : ℕ → Walk → List Handed
+handedOut zero walk = []
+handedOut (suc n) walk = steppedOf walk .handed ∷ handedOut n (steppedOf walk .walk)

@@ -1,6 +1,6 @@
 -- Laws of the rest: the items from a cursor on, and that a step hands out the first of them.
-use mathlib.Core.Path.{_≡_, refl}
-use Prim.Native.Nat.{ℕ, zero, suc, _+_, _-_}
+use mathlib.Core.Path.{_≡_, refl, ap}
+use Prim.Native.Nat.{ℕ, zero, suc, _+_, _-_, _<_}
 use mathlib.Core.Bool.{Bool, true, false, cond}
 use mathlib.Core.List.{List, [], _∷_, _++_}
 use native.Mathlib.Omega.{arith}
@@ -8,7 +8,7 @@ use lib.ListN.{length}
 use Rattle.cycle.specs.declared.Carried.{Carried}
 use Rattle.cycle.specs.declared.Item.{Item}
 use Rattle.trace.specs.declared.Listing.{Listing}
-use Rattle.trace.specs.declared.Listing.the-variants.{Items}
+use Rattle.trace.specs.declared.Listing.the-variants.{Items, Refused}
 use Rattle.cycle.specs.Cycle.{pst, givesOwn, after}
 use Rattle.cycle.specs.CycleItems.{ofValue, ofCycle, ownItem, itemsAt}
 use Rattle.trace.specs.Items.{itemsFrom}
@@ -17,7 +17,7 @@ use Rattle.steps.specs.declared.Handed.{Handed}
 use Rattle.steps.specs.declared.Handed.the-variants.{Item as oneItem, End as atEnd, Refused as asRefused}
 use Rattle.steps.specs.declared.Step.{Step}
 use Rattle.steps.specs.WalkStep.{cursorAt, valueNext, handing, stepFrom, stepOf}
-use Rattle.steps.specs.WalkStepLaws.{step-read}
+use Rattle.steps.specs.WalkStepLaws.{step-refused, step-read}
 
 -- the items of n cycles from cycle i on, the first value aside where it is past
 unfoldable pub itemsPast : List ℕ → ℕ → ℕ → Carried → Bool → List Item
@@ -84,3 +84,20 @@ pub step-unrolls : (trace : List ℕ) (cursor : Cursor) (n : ℕ) → cursor .st
 step-unrolls trace cursor n e =
     rw (step-read trace cursor n e)
     (from-unrolls trace (cursor .start) (length trace - cursor .cycle) (cursor .cycle) (cursor .carried) (cursor .past) refl)
+
+-- an item handed out is one less to hand out
+pub rest-falls : (trace : List ℕ) (cursor : Cursor) (x : Item) → stepOf trace cursor .handed ≡ oneItem x
+    → length (rest trace (stepOf trace cursor .cursor)) < length (rest trace cursor)
+rest-falls trace cursor x e = by-start (cursor .start) refl
+  where
+    by-handed : (xs : List Item) (q : Cursor) (h : Handed) → h ≡ oneItem x → Unrolls trace xs q h → length (rest trace q) < length xs
+    by-handed xs q (oneItem y) f u = let z = ap length u in omega arith
+    by-handed xs q atEnd f u = let z : _≡_ {A = ℕ} 0 1 = cc in absurd (omega arith)
+    by-handed xs q (asRefused ground cycle) f u = absurd u
+
+    by-start : (l : Listing) → cursor .start ≡ l → length (rest trace (stepOf trace cursor .cursor)) < length (rest trace cursor)
+    by-start (Items n) f = by-handed (rest trace cursor) (stepOf trace cursor .cursor) (stepOf trace cursor .handed) e (step-unrolls trace cursor n f .0)
+    by-start (Refused ground cycle) f =
+        let h = step-refused trace cursor ground cycle f in
+        let z : _≡_ {A = ℕ} 0 1 = cc in
+        absurd (omega arith)
