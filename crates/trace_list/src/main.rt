@@ -1,15 +1,22 @@
-// Lists the trace on standard input, one byte a cycle: a head, then the cycle, code and value of each item in decimal. With an
-// argument FROM, the listing starts at that cycle, by way of the index.
+// Lists the trace on standard input, one byte a cycle: a head, then the cycle, code and value of each item in decimal, as a walk
+// hands them out. With an argument FROM, the listing starts at that cycle, by way of the index.
 mod asked;
 
 use asked::Asked;
+use cycle::Item;
+use grounds::Ground;
 use libc::STDIN_FILENO;
+use steps::Cursor;
+use steps::Handed;
 use summary::page;
 use text::listing::put_head;
 use text::listing::put_item;
 use text::request::put_refusal_at;
 use text::request::put_unclear;
 use trace::Listing;
+ghost use mathlib.Core.Path.{_≡_};
+ghost use Prim.Native.Nat.{_+_, _*_, _≤_};
+ghost use lib.ListN.{length};
 
 // Writes the text out where half of it is used; the place where the next line goes.
 fn make_room(text: &[u8], at: usize) -> usize {
@@ -20,34 +27,86 @@ fn make_room(text: &[u8], at: usize) -> usize {
     0
 }
 
+// An item's first word.
+fn word_of(item: Item) -> u32
+    requires { ⌜ item .cycle ≤ 65536 ⌝ }
+    ensures { λ r. ⌜ r ≡ item .cycle * 16 + item .code ⌝ }
+{
+    (item.cycle * 16 + item.code as usize) as u32
+}
+
+// One more item's line; the place after it.
+fn add_item(text: &mut [u8], at: usize, word: u32, value: u32) -> usize {
+    let from = make_room(text, at);
+    let end = put_item(text, from, word, value);
+    text::put_byte(text, end, b'\n')
+}
+
 // The items' lines, gathered in the text and written out in large parts.
 fn write_items(words: &[u32], text: &mut [u8]) {
     let mut at = 0usize;
     let items = words.len() / 2;
     let mut k = 0usize;
     while k < items {
-        at = make_room(text, at);
-        at = put_item(text, at, words[2 * k], words[2 * k + 1]);
-        at = text::put_byte(text, at, b'\n');
+        at = add_item(text, at, words[2 * k], words[2 * k + 1]);
         k += 1;
     }
     console::write(text, at);
 }
 
+// The lines of the items that a walk hands out, one a step, until it hands out none.
+fn write_walk(trace: &[u8], start: Cursor, text: &mut [u8])
+    requires { ⌜ length (now trace) ≤ 65537 ⌝ }
+{
+    let mut at = 0usize;
+    let mut cursor = start;
+    loop {
+        let step = walk::next_item(trace, cursor);
+        let handed = step.handed;
+        let Handed::Item(item) = handed else {
+            break;
+        };
+        at = add_item(text, at, word_of(item), item.value);
+        cursor = step.cursor;
+    }
+    console::write(text, at);
+}
+
+fn say_refusal(ground: Ground, cycle: usize, text: &mut [u8]) {
+    let end = put_refusal_at(text, ground, cycle);
+    console::say(text, end);
+}
+
+fn say_head(cycles: usize, items: usize, text: &mut [u8]) {
+    let end = put_head(text, cycles, items);
+    console::say(text, end);
+}
+
 // What a listing answered, and the items whose words it left.
 fn write_listing(listed: Listing, cycles: usize, words: &[u32], text: &mut [u8]) {
     match listed {
-        Listing::Refused { ground, cycle } => {
-            let end = put_refusal_at(text, ground, cycle);
-            console::say(text, end);
-        }
+        Listing::Refused { ground, cycle } => say_refusal(ground, cycle, text),
         Listing::Items(items) => {
-            let end = put_head(text, cycles, items);
-            console::say(text, end);
+            say_head(cycles, items, text);
             let room = words.len() / 2;
             if items <= room {
                 write_items(&words[..2 * items], text);
             }
+        }
+    }
+}
+
+// The whole trace: how the walk's start was judged, and what its steps hand out.
+fn write_whole(trace: &[u8], text: &mut [u8])
+    requires { ⌜ length (now trace) ≤ 65537 ⌝ }
+{
+    let start = walk::start_cursor(trace);
+    let judged = start.start;
+    match judged {
+        Listing::Refused { ground, cycle } => say_refusal(ground, cycle, text),
+        Listing::Items(items) => {
+            say_head(trace.len(), items, text);
+            write_walk(trace, start, text);
         }
     }
 }
@@ -77,23 +136,18 @@ fn list_from(trace: &[u8], from: usize, words: &mut [u32], text: &mut [u8]) {
     let page = page::make_page(trace, &mut index);
     let judged = page.judged;
     match judged {
-        Listing::Refused { ground, cycle } => {
-            let end = put_refusal_at(text, ground, cycle);
-            console::say(text, end);
-        }
+        Listing::Refused { ground, cycle } => say_refusal(ground, cycle, text),
         Listing::Items(_) => write_from(trace, from, &index, words, text),
     }
 }
 
-// A buffer of four words a cycle is never too short.
 fn list_whole(text: &mut [u8]) {
     let mut trace = [0u8; 65537];
-    let mut words = [0u32; 262144];
     let cycles = io::read_full(STDIN_FILENO, &mut trace);
-    let listed = listing::list_trace(&trace[..cycles], &mut words);
-    write_listing(listed, cycles, &words, text);
+    write_whole(&trace[..cycles], text);
 }
 
+// A buffer of four words a cycle is never too short.
 fn list_rest(from: usize, text: &mut [u8]) {
     let mut trace = [0u8; 65537];
     let mut words = [0u32; 262144];

@@ -14,35 +14,29 @@ abbrev μ-loop : tie.MeasureT-loop
 loop-holds : tie.Need-loop-holds Inv-loop μ-loop
 loop-holds c = search needs
 
-make-room-requires : tie.Need-make-room-requires Inv-loop μ-loop
-make-room-requires c κs = search needs
+mul-add-item : tie.Need-mul-add-item Inv-loop μ-loop
+mul-add-item c = search needs
 
-mul-put-item : tie.Need-mul-put-item Inv-loop μ-loop
-mul-put-item c = search needs
+mul-add-item-2 : tie.Need-mul-add-item-2 Inv-loop μ-loop
+mul-add-item-2 c = search needs
 
-mul-put-item-2 : tie.Need-mul-put-item-2 Inv-loop μ-loop
-mul-put-item-2 c = search needs
+shared-slice-read-add-item : tie.Need-shared-slice-read-add-item Inv-loop μ-loop
+shared-slice-read-add-item c = search needs
 
-shared-slice-read-put-item : tie.Need-shared-slice-read-put-item Inv-loop μ-loop
-shared-slice-read-put-item c = search needs
+mul-add-item-3 : tie.Need-mul-add-item-3 Inv-loop μ-loop
+mul-add-item-3 c = search needs
 
-mul-put-item-3 : tie.Need-mul-put-item-3 Inv-loop μ-loop
-mul-put-item-3 c = search needs
+add-add-item : tie.Need-add-add-item Inv-loop μ-loop
+add-add-item c = search needs
 
-add-put-item : tie.Need-add-put-item Inv-loop μ-loop
-add-put-item c = search needs
+mul-add-item-4 : tie.Need-mul-add-item-4 Inv-loop μ-loop
+mul-add-item-4 c = search needs
 
-mul-put-item-4 : tie.Need-mul-put-item-4 Inv-loop μ-loop
-mul-put-item-4 c = search needs
+shared-slice-read-add-item-2 : tie.Need-shared-slice-read-add-item-2 Inv-loop μ-loop
+shared-slice-read-add-item-2 c = search needs
 
-shared-slice-read-put-item-2 : tie.Need-shared-slice-read-put-item-2 Inv-loop μ-loop
-shared-slice-read-put-item-2 c = search needs
-
-put-item-requires : tie.Need-put-item-requires Inv-loop μ-loop
-put-item-requires c κs = search needs
-
-put-byte-requires : tie.Need-put-byte-requires Inv-loop μ-loop
-put-byte-requires c κs = search needs
+add-item-requires : tie.Need-add-item-requires Inv-loop μ-loop
+add-item-requires c κs = search needs
 
 add-k : tie.Need-add-k Inv-loop μ-loop
 add-k c = search needs
@@ -69,16 +63,14 @@ write-items-spec =
     Inv-loop
     μ-loop
     loop-holds
-    make-room-requires
-    mul-put-item
-    mul-put-item-2
-    shared-slice-read-put-item
-    mul-put-item-3
-    add-put-item
-    mul-put-item-4
-    shared-slice-read-put-item-2
-    put-item-requires
-    put-byte-requires
+    mul-add-item
+    mul-add-item-2
+    shared-slice-read-add-item
+    mul-add-item-3
+    add-add-item
+    mul-add-item-4
+    shared-slice-read-add-item-2
+    add-item-requires
     add-k
     loop-less
     loop-again

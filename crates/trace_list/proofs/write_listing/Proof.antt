@@ -7,20 +7,14 @@ use Rattle.trace_list.proofs.write_listing.Tie as tie
 enum-known-listed : tie.Need-enum-known-listed
 enum-known-listed c = search needs
 
-put-refusal-at-requires : tie.Need-put-refusal-at-requires
-put-refusal-at-requires c κs = search needs
-
-say-requires : tie.Need-say-requires
-say-requires c κs = search needs
+say-refusal-requires : tie.Need-say-refusal-requires
+say-refusal-requires c κs = search needs
 
 enum-known-listed-2 : tie.Need-enum-known-listed-2
 enum-known-listed-2 c = search needs
 
-put-head-requires : tie.Need-put-head-requires
-put-head-requires c κs = search needs
-
-say-requires-2 : tie.Need-say-requires-2
-say-requires-2 c κs = search needs
+say-head-requires : tie.Need-say-head-requires
+say-head-requires c κs = search needs
 
 mul-write-items : tie.Need-mul-write-items
 mul-write-items c = search needs
@@ -54,11 +48,9 @@ write-listing-spec =
     tie.close
     (tie.spec
     enum-known-listed
-    put-refusal-at-requires
-    say-requires
+    say-refusal-requires
     enum-known-listed-2
-    put-head-requires
-    say-requires-2
+    say-head-requires
     mul-write-items
     slice-aggregate-write-items
     write-items-requires
