@@ -1,5 +1,6 @@
 pub mod Board
 pub mod BoardUnique
 pub mod Setters
+pub mod RegisterBits
 pub mod State
 pub mod Ranges

@@ -3,7 +3,7 @@ use mathlib.Core.Bool.{Bool, not, _&&_, _||_}
 use Rattle.board.specs.declared.Status.{Status}
 use Rattle.board.specs.declared.Debug.{Debug}
 use Rattle.board.specs.Setters.{withHalted, withBkpt}
-use Rattle.comparators.specs.Masks.{bit}
+use Rattle.board.specs.RegisterBits.{bit}
 use Rattle.bus.specs.declared.Pressed.{Pressed}
 
 -- "BKD 18"

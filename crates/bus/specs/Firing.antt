@@ -6,7 +6,7 @@ use Rattle.board.specs.declared.Status.{Status}
 use Rattle.board.specs.declared.Debug.{Debug}
 use Rattle.board.specs.Setters.{withHalted, withTrg, withBstat, withSync}
 use Rattle.trigger.specs.declared.Event.{Event}
-use Rattle.comparators.specs.Masks.{bit}
+use Rattle.board.specs.RegisterBits.{bit}
 use Rattle.trigger.specs.Levels.{levelTwo}
 use Rattle.trigger.specs.Fired.{firedLevel}
 use Rattle.bus.specs.declared.Captured.{Captured}

@@ -3,5 +3,6 @@ pub mod Breakpoint
 pub mod EventAnswers
 pub mod Events
 pub mod EventLaws
+pub mod ArmingLaws
 pub mod EventUnique
 pub mod EventExamples

@@ -10,7 +10,7 @@ use native.Mathlib.Omega.{arith}
 use Rattle.laws.specs.TestLaws.{by-test}
 use Rattle.board.specs.declared.Debug.{Debug}
 use Rattle.comparators.specs.declared.BusAccess.{BusAccess}
-use Rattle.comparators.specs.Masks.{bit}
+use Rattle.board.specs.RegisterBits.{bit}
 use Rattle.comparators.specs.MaskLaws.{no-one, or-digit, left-alone, bit-of-half, agree-then-bits, bits-then-agree}
 use Rattle.comparators.specs.Lanes.{carriedLanes, lanesRead}
 use Rattle.comparators.specs.Comparators.{dataAgrees}

@@ -8,7 +8,8 @@ use borrow.Author.Tests.{eqb-true, eqb-false, eq-eqb}
 use native.Mathlib.Nat.{max-zero, max-le, max-eq-right, div-div-eq-div-mul, pow-succ'}
 use native.Mathlib.Omega.{arith}
 use Rattle.laws.specs.TestLaws.{by-test}
-use Rattle.comparators.specs.Masks.{bit, agree}
+use Rattle.board.specs.RegisterBits.{bit}
+use Rattle.comparators.specs.Masks.{agree}
 
 or-low : (a m : ℕ) → bitOr a m % 2 ≡ max (a % 2) (m % 2)
 or-low a m = rw (or-step a m) (omega (arith, max-le {a = a % 2} {b = m % 2} {k = 1} (omega arith) (omega arith)))

@@ -1,12 +1,8 @@
--- Events and firing (01): a bit of a register, and the masked comparison.
-use Prim.Native.Nat.{ℕ, _/_, _%_, _^_}
+-- Events and firing (01): the masked comparison.
+use Prim.Native.Nat.{ℕ}
 use mathlib.Core.Bool.{Bool, not, cond}
 use lib.Dec.{eqb}
 use lib.Bits.{bitOr}
-
--- bit k is set
-abbrev pub bit : ℕ → ℕ → Bool
-bit k n = eqb (n / 2 ^ k % 2) 1
 
 -- "the bits .. where PBMR is 0 agree": a bit that the mask sets is set on both sides before they are compared
 unfoldable pub agree : ℕ → ℕ → ℕ → Bool

@@ -1,5 +1,5 @@
 -- Packets (01): the control and debug registers, and what each command's work leaves of the board.
-use Prim.Native.Nat.{ℕ, suc, _/_, _%_, _^_}
+use Prim.Native.Nat.{ℕ, suc, _%_, _^_}
 use mathlib.Core.Bool.{Bool, true, cond, _||_}
 use mathlib.Core.List.{List, [], _∷_}
 use lib.Dec.{eqb, ltb}
@@ -19,7 +19,8 @@ use Rattle.board.specs.declared.Board.{Board}
 use Rattle.board.specs.declared.Status.{Status}
 use Rattle.board.specs.declared.Debug.{Debug}
 use Rattle.board.specs.Setters.{withStatus, withRegisters, withDebug, withGeneral, withControl, withBstat}
-use Rattle.registers.specs.Csr.{csrWritten, csrValue, afterCsrRead, afterGo, afterSyncPc}
+use Rattle.board.specs.RegisterBits.{eblOf}
+use Rattle.registers.specs.Csr.{flag, csrWritten, csrValue, afterCsrRead, afterGo, afterSyncPc}
 
 -- "Control registers: .."
 abbrev pub controlNumbers : List ℕ
@@ -65,9 +66,9 @@ debugLoaded n v d = record {
   dbmr = cond (is n Dbmr) v (d .dbmr);
 }
 
--- "A TDR write sets BSTAT to 1 if level 1's EBL is set, else 0." EBL is bit 13
+-- "A TDR write sets BSTAT to 1 if level 1's EBL is set, else 0."
 abbrev pub armed : Status → ℕ → Status
-armed s v = withBstat s (v / 2 ^ 13 % 2)
+armed s v = withBstat s (flag (eblOf v))
 
 unfoldable pub debugWritten : Board → DebugRegister → ℕ → Board
 debugWritten b r v =

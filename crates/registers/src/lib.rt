@@ -222,7 +222,7 @@ fn arm(status: Status, value: u32) -> Status
     ensures { λ r. ⌜ r ≡ armed status value ⌝ }
 {
     let mut s = status;
-    s.bstat = value / 8192 % 2;
+    s.bstat = flag_of(value / 8192 % 2 == 1);
     s
 }
 

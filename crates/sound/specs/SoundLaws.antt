@@ -1,5 +1,5 @@
 -- Laws: a fresh board is sound, a sound state is within the ranges of 12, and a packet keeps it sound.
-use Prim.Native.Nat.{ℕ, zero, suc, _/_, _%_, _^_, _≤_, _<_}
+use Prim.Native.Nat.{ℕ, zero, suc, _%_, _^_, _≤_, _<_}
 use native.Mathlib.Omega.{arith}
 use mathlib.Core.Path.{_≡_, refl}
 use mathlib.Core.Bool.{Bool, true, false, cond, _||_}
@@ -21,8 +21,9 @@ use Rattle.board.specs.declared.Phase.{Phase}
 use Rattle.board.specs.declared.Phase.the-variants.{Rest, Due, Waiting, Upper}
 use Rattle.board.specs.declared.Place.{Place}
 use Rattle.board.specs.Board.{freshBoard, freshPlace}
+use Rattle.board.specs.RegisterBits.{eblOf}
 use Rattle.board.specs.Ranges.{phaseInRange, bstatInRange, inRange}
-use Rattle.registers.specs.Csr.{csrWritten, bstatRead}
+use Rattle.registers.specs.Csr.{flag, csrWritten, bstatRead}
 use Rattle.registers.specs.Registers.{is, controlIndex, controlListed, armed, debugLoaded, generalWritten, controlWritten, debugWritten, boardAfter}
 use Rattle.registers.specs.ChangeLaws.{each-change}
 use Rattle.plan.specs.declared.Plan.{Plan}
@@ -55,14 +56,10 @@ debug-keeps n v d f h =
       dbmr = loaded (2 ^ 32) (is n Dbmr) v (d .dbmr) f (h .dbmr);
     }
 
-armed-in-range : (v : ℕ) → bstatInRange (v / 2 ^ 13 % 2) ≡ true
+flag-in-range : (x : Bool) → bstatInRange (flag x) ≡ true
 unfolding bstatInRange
-armed-in-range v = by-bit (v / 2 ^ 13 % 2) (omega arith)
-  where
-    by-bit : (x : ℕ) → x < 2 → bstatInRange x ≡ true
-    by-bit zero h = refl
-    by-bit (suc zero) h = refl
-    by-bit (suc (suc n)) h = absurd (omega arith)
+flag-in-range true = refl
+flag-in-range false = refl
 
 read-in-range : (s : ℕ) → bstatInRange s ≡ true → bstatInRange (bstatRead s) ≡ true
 unfolding bstatRead bstatInRange
@@ -103,7 +100,7 @@ module _ (w : ℕ) (b : Board) (h : SoundBoard w b) where
   debug-write-keeps r v f = record {
     setting = h .setting;
     small = h .small;
-    bstat = either (λ (s : Status). bstatInRange (s .bstat) ≡ true) (is (debugNumber r) Tdr) (armed (b .status) v) (b .status) (λ e. armed-in-range v)
+    bstat = either (λ (s : Status). bstatInRange (s .bstat) ≡ true) (is (debugNumber r) Tdr) (armed (b .status) v) (b .status) (λ e. flag-in-range (eblOf v))
         (λ e. h .bstat);
     general = h .general;
     control = h .control;

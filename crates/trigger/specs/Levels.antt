@@ -1,14 +1,14 @@
 -- Events and firing (01): the two levels of TDR.
 use Prim.Native.Nat.{ℕ, _/_, _^_}
 use mathlib.Core.Bool.{Bool}
+use Rattle.board.specs.RegisterBits.{bit, eblOf}
 use Rattle.comparators.specs.declared.Level.{Level}
-use Rattle.comparators.specs.Masks.{bit}
 
 -- "from bit 13 to 0: EBL, EDLW, EDWL, EDWU, EDLL, EDLM, EDUM, EDUU, DI, EAI, EAR, EAL, EPC, PCI"
 unfoldable pub levelOf : ℕ → Bool → Level
 levelOf bits t = record {
   t = t;
-  ebl = bit 13 bits;
+  ebl = eblOf bits;
   edlw = bit 12 bits;
   edwl = bit 11 bits;
   edwu = bit 10 bits;

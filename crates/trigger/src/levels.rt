@@ -1,7 +1,7 @@
 // The two levels of TDR (01, "Events and firing").
 ghost use mathlib.Core.Path.{_≡_};
 ghost use Prim.Native.Nat.{_<_};
-ghost use Rattle.comparators.specs.Masks.{bit};
+ghost use Rattle.board.specs.RegisterBits.{bit};
 ghost use Rattle.trigger.specs.Levels.{levelOf, levelOne, levelTwo};
 use comparators::Level;
 
