@@ -3,6 +3,8 @@ pub mod MeantCommandLaws
 pub mod RequestCountLaws
 pub mod ReplyLaws
 pub mod NotYetLaws
+pub mod ImpossibleReplies
+pub mod ImpossibleReplyLaws
 pub mod BuildingUnique
 pub mod ReadingUnique
 pub mod PodExamples

@@ -23,7 +23,7 @@ open-answer (Second upper) n h = refl
 open-answer (Closed outcome) n h = cc
 open-answer (Bad ground) n h = cc
 
-not-yet-open : (d : Reader) (n m : ℕ) → answered d n ≡ NotYet m → done d ≡ false
+pub not-yet-open : (d : Reader) (n m : ℕ) → answered d n ≡ NotYet m → done d ≡ false
 not-yet-open First n m e = refl
 not-yet-open (Second upper) n m e = refl
 not-yet-open (Closed outcome) n m e = cc
@@ -35,6 +35,10 @@ open-uses-all k d (r ∷ rs) h =
     by-test (done d)
     (λ g. let z : true ≡ false = sym g ∙ sym (ap done (done-stays k d (r ∷ rs) g)) ∙ h in cc)
     (λ g. rw g (omega (arith, open-uses-all k (afterReply k d r) rs h)))
+
+-- .. and then every reply is used
+pub open-is-not-yet : (k : ResultKind) (rs : List ℕ) → done (afterReplies k First rs) ≡ false → readingOf k rs ≡ NotYet (length rs)
+open-is-not-yet k rs h = open-answer (afterReplies k First rs) (used k First rs) h ∙ ap NotYet (open-uses-all k First rs h)
 
 -- "all of them for not yet"
 pub not-yet-uses-all : (k : ResultKind) (rs : List ℕ) (n : ℕ) → readingOf k rs ≡ NotYet n → n ≡ length rs
@@ -60,7 +64,7 @@ done-further k d (x ∷ xs) ys h = same-before k d x (xs ++ ys) xs (done-further
 pub further-replies : (k : ResultKind) (xs ys : List ℕ) → done (afterReplies k First xs) ≡ true → readingOf k (xs ++ ys) ≡ readingOf k xs
 further-replies k xs ys h = let same = done-further k First xs ys h in rw (same .0, same .1)
 
-after-append : (k : ResultKind) (d : Reader) (xs ys : List ℕ) → afterReplies k d (xs ++ ys) ≡ afterReplies k (afterReplies k d xs) ys
+pub after-append : (k : ResultKind) (d : Reader) (xs ys : List ℕ) → afterReplies k d (xs ++ ys) ≡ afterReplies k (afterReplies k d xs) ys
 after-append k d [] ys = refl
 after-append k d (x ∷ xs) ys = after-append k (afterReply k d x) xs ys
 
