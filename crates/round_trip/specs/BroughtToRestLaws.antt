@@ -28,6 +28,12 @@ rests-within zero s f h = ap atRest (none-to-go (s .board .w) (s .place .phase) 
 rests-within (suc k) s f h =
     by-test (atRest (s .place .phase)) (λ t. rw t t) (λ t. rw t (rests-within k (stepped s 0) (packet-keeps-sound f 0) (omega (arith, nop-leaves f))))
 
+-- the same of a run of NOPs that does not stop at rest
+pub nops-rest : (n : ℕ) (s : State) → Sound s → toGo (s .board .w) (s .place .phase) ≤ n → atRest (ran (nops n) s .place .phase) ≡ true
+unfolding ran
+nops-rest zero s f h = ap atRest (none-to-go (s .board .w) (s .place .phase) (f .place .phase) h)
+nops-rest (suc n) s f h = nops-rest n (stepped s 0) (packet-keeps-sound f 0) (omega (arith, nop-leaves f))
+
 -- 4 + W are enough
 pub four-and-w : (k : ℕ) {s : State} → Sound s → 4 + s .board .w ≤ k → atRest (rested k s .place .phase) ≡ true
 four-and-w k {s} f h = rests-within k s f (omega (arith, to-go-at-most (s .board .w) (s .place .phase) (f .place .phase)))

@@ -12,6 +12,7 @@ pub mod TalkLaws
 pub mod UnderwayLaws
 pub mod WriteReadLaws
 pub mod NextRequestLaws
+pub mod IllegalTripLaws
 pub mod WholeRunLaws
 pub mod EveryWLaws
 pub mod MeaningExamples

@@ -1,10 +1,12 @@
 -- Examples of meaning and of the exchange, computed from the definitions.
 use Prim.Native.Nat.{ℕ}
 use mathlib.Core.Path.{_≡_, refl}
+use mathlib.Core.Bool.{false}
 use mathlib.Core.List.{List, [], _∷_}
 use Rattle.memory.specs.declared.Size.the-variants.{Byte, Word, Long}
 use Rattle.memory.specs.Memory.{fetched}
 use Rattle.command.specs.Command.{decoded, decodedWord}
+use Rattle.command.specs.Reply.{complete}
 use Rattle.board.specs.declared.Chain.the-variants.{Off}
 use Rattle.board.specs.Board.{freshBoard, freshPlace}
 use Rattle.registers.specs.Csr.{csrValue}
@@ -16,7 +18,7 @@ use Rattle.run.specs.Run.{ran}
 use Rattle.requests.specs.declared.Request.the-variants.{Read, Write, Dump, Fill, Rcreg, Rdmreg}
 use Rattle.readings.specs.declared.Outcome.the-variants.{Value, BusError, Illegal}
 use Rattle.round_trip.specs.Meaning.{Scene, meaning}
-use Rattle.round_trip.specs.RoundTrip.{outcomeThere, packetsThere}
+use Rattle.round_trip.specs.RoundTrip.{resting, outcomeThere, packetsThere, allWords}
 use Rattle.round_trip.specs.BroughtToRest.{restNops, restBudget}
 
 abbrev sixteen : List ℕ
@@ -53,6 +55,11 @@ p6-means = refl
 pub p7-means : outcomeThere (Fill Byte 1) (meaning (Read Byte 4) (fresh 0 sixteen) .leaves) ≡ Illegal
 unfolding freshBoard decoded decodedWord
 p7-means = refl
+
+-- a FILL that is illegal, and all its words sent: the data word is taken as GO
+pub illegal-fill-goes : ran (allWords (Fill Word 0x0C00) 0) (resting (fresh 0 []) complete) .board .status .halted ≡ false
+unfolding ran stepped freshBoard freshPlace planFor begun collected workAfter decoded decodedWord
+illegal-fill-goes = refl
 
 -- a word written big-endian at an odd address, and a FILL after it
 pub write-means : meaning (Write Word 3 0xAABB) (fresh 0 (0 ∷ 0 ∷ 0 ∷ 0 ∷ 0 ∷ [])) .leaves .memory ≡ 0 ∷ 0 ∷ 0xAA ∷ 0xBB ∷ 0 ∷ []

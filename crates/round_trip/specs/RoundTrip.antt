@@ -1,11 +1,11 @@
 -- The round trip (01, Packets, and by eye): a request's words and then NOPs sent to a place at rest, what they come to, and the promise.
-use Prim.Native.Nat.{ℕ, _+_, _-_, _<_}
+use Prim.Native.Nat.{ℕ, _+_, _-_, _≤_, _<_}
 use mathlib.Core.Path.{_≡_}
-use mathlib.Core.Bool.{Bool, cond}
-use mathlib.Core.List.{List, _++_}
+use mathlib.Core.Bool.{Bool, true, cond}
+use mathlib.Core.List.{List, [], _++_}
 use lib.ListN.{length, getD, replicate, take, drop}
 use Rattle.command.specs.Reply.{complete, illegal}
-use Rattle.board.specs.Board.{freshPlace}
+use Rattle.board.specs.Board.{freshPlace, atRest}
 use Rattle.board.specs.Setters.{placeWith}
 use Rattle.board.specs.declared.Phase.the-variants.{Rest}
 use Rattle.board.specs.declared.Chain.the-variants.{Off}
@@ -14,6 +14,7 @@ use Rattle.board.specs.State.{State, stateOf}
 use Rattle.plan.specs.Plan.{legalWord, waitsOf}
 use Rattle.step.specs.Step.{stepped}
 use Rattle.run.specs.Run.{ran, replies}
+use Rattle.sound.specs.Sound.{Sound}
 use Rattle.requests.specs.declared.Request.{Request}
 use Rattle.requests.specs.declared.ResultKind.{ResultKind}
 use Rattle.readings.specs.declared.Outcome.{Outcome}
@@ -60,9 +61,13 @@ secondWord request = getD (operands request) 0 0
 abbrev pub unchained : Scene → Scene
 unchained s = record { board = s .board; chain = Off; pointer = s .pointer; memory = s .memory }
 
--- illegal: "the next reply is 0x1FFFF and the port is at rest", and that reply leaves with the second word, itself "a command word taken"
+-- illegal: "the next reply is 0x1FFFF and the port is at rest"
+abbrev pub afterIllegal : Scene → State
+afterIllegal s = resting (unchained s) illegal
+
+-- .. and that reply leaves with the second word, itself "a command word taken"
 abbrev pub illegalLeaves : Request → Scene → State
-illegalLeaves request s = stepped (resting (unchained s) illegal) (secondWord request)
+illegalLeaves request s = stepped (afterIllegal s) (secondWord request)
 
 unfoldable pub stateThere : Request → Scene → State
 stateThere request s = cond (legalThere request s) (legalLeaves request s) (illegalLeaves request s)
@@ -97,3 +102,26 @@ pub record Trip (request : Request) (words : List ℕ) (s : State) (outcome : Ou
   pub notYet : (n : ℕ) → n < length words - 1 → reading request (take n (laterReplies words s)) ≡ NotYet n
   -- what the words leave: the board, the place and memory
   pub state : ran words s ≡ final
+
+-- ---- the promise where the word is illegal and the pod sends all that it built
+-- all built words, and then n NOPs
+abbrev pub allWords : Request → ℕ → List ℕ
+allWords request n = builtWords request ++ nops n
+
+-- those after the command word; the first of them finds the port at rest, and "Every packet accepted at rest is a command word taken"
+abbrev pub wordsAfter : Request → ℕ → List ℕ
+wordsAfter request n = operands request ++ nops n
+
+pub record IllegalTrip (request : Request) (n : ℕ) (s : Scene) (next : ℕ) : Type 0 where
+  -- with no reply in, it is "not yet"
+  pub notYet : reading request [] ≡ NotYet 0
+  -- the first reply is read as illegal, and "words after the result are unread"
+  pub answer : reading request (laterReplies (allWords request n) (resting s next)) ≡ Ended Illegal 1
+  -- the replies are those of the words after the command word, sent to the port as the illegal word leaves it
+  pub told : laterReplies (allWords request n) (resting s next) ≡ replies (wordsAfter request n) (afterIllegal s)
+  -- and so is what is left: the board, the place and memory
+  pub state : ran (allWords request n) (resting s next) ≡ ran (wordsAfter request n) (afterIllegal s)
+  -- what is left is within every range where what was found is
+  pub sound : Sound (resting s next) → Sound (ran (allWords request n) (resting s next))
+  -- with 4 + W NOPs it is at rest
+  pub rests : Sound (resting s next) → 4 + s .board .w ≤ n → atRest (ran (allWords request n) (resting s next) .place .phase) ≡ true
