@@ -1,8 +1,31 @@
--- Text gathered for an answer: the place after a byte.
-use Prim.Native.Nat.{ℕ, _+_}
-use mathlib.Core.Bool.{cond}
-use lib.Dec.{ltb}
+-- Text put into a lent buffer (the desk's language): what stands in the buffer afterwards, and the place after the text.
+use Prim.Native.Nat.{ℕ, _+_, min, max}
+use Prim.Native.Char.{code}
+use Prim.Native.String.{String, [] as none, _∷_ as _then_}
+use mathlib.Core.Path.{_≡_}
+use mathlib.Core.Bool.{Bool, cond}
+use mathlib.Core.List.{List, [], _∷_}
+use lib.ListN.{length}
+use lib.Seq.{sets}
 
--- one further, while there is room
-abbrev pub placed : ℕ → ℕ → ℕ
-placed at room = cond (ltb at room) (at + 1) at
+-- the buffer with a text from a place on; what lies beyond the buffer's end is left out, and all other bytes stay
+abbrev pub written : List ℕ → ℕ → List ℕ → List ℕ
+written buffer at text = sets buffer at text
+
+-- the place after so many bytes: no further than the room, and never back
+abbrev pub endOf : ℕ → ℕ → ℕ → ℕ
+endOf at count room = max at (min (at + count) room)
+
+-- a text put at a place of a buffer: the buffer afterwards, and the place after the text
+pub record Puts (before : List ℕ) (at : ℕ) (text after : List ℕ) (end : ℕ) : Type 0 where
+  pub bytes : after ≡ written before at text
+  pub place : end ≡ endOf at (length text) (length before)
+
+-- the bytes of a text in ASCII
+abbrev pub ascii : String → List ℕ
+ascii none = []
+ascii (c then rest) = code c ∷ ascii rest
+
+-- "flags 0 or 1"
+abbrev pub flagText : Bool → List ℕ
+flagText flag = cond flag (ascii "1") (ascii "0")

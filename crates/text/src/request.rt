@@ -6,13 +6,20 @@ use crate::put_text;
 use grounds::Ground;
 use readings::Outcome;
 use readings::Reading;
+ghost use Rattle.text.specs.Text.{Puts};
+ghost use Rattle.text.specs.RefusalText.{unclearText, refusedAt, refusedText};
+ghost use Rattle.text.specs.RequestText.{outcomeText, wordsText, usedText, readingText, exchangeText};
 
-pub fn put_unclear(text: &mut [u8]) -> usize {
+pub fn put_unclear(text: &mut [u8]) -> usize
+    ensures { λ r. ⌜ Puts (now (text .entry)) 0 unclearText (now (text .exit)) r ⌝ }
+{
     put_text(text, 0, b"unclear")
 }
 
 // `refused N at C`
-pub fn put_refusal_at(text: &mut [u8], ground: Ground, cycle: usize) -> usize {
+pub fn put_refusal_at(text: &mut [u8], ground: Ground, cycle: usize) -> usize
+    ensures { λ r. ⌜ Puts (now (text .entry)) 0 (refusedAt ground cycle) (now (text .exit)) r ⌝ }
+{
     let at = put_text(text, 0, b"refused ");
     let at = put_decimal(text, at, grounds::number_of(ground) as usize);
     let at = put_text(text, at, b" at ");
@@ -20,11 +27,15 @@ pub fn put_refusal_at(text: &mut [u8], ground: Ground, cycle: usize) -> usize {
 }
 
 // `refused N at 0`: only a trace is refused at a cycle.
-pub fn put_refusal(text: &mut [u8], ground: Ground) -> usize {
+pub fn put_refusal(text: &mut [u8], ground: Ground) -> usize
+    ensures { λ r. ⌜ Puts (now (text .entry)) 0 (refusedText ground) (now (text .exit)) r ⌝ }
+{
     put_refusal_at(text, ground, 0)
 }
 
-fn put_outcome(text: &mut [u8], outcome: Outcome) -> usize {
+fn put_outcome(text: &mut [u8], outcome: Outcome) -> usize
+    ensures { λ r. ⌜ Puts (now (text .entry)) 0 (outcomeText outcome) (now (text .exit)) r ⌝ }
+{
     match outcome {
         Outcome::Value(value) => {
             let at = put_text(text, 0, b"value ");
@@ -37,7 +48,9 @@ fn put_outcome(text: &mut [u8], outcome: Outcome) -> usize {
 }
 
 // `words X X ..`
-pub fn put_words(text: &mut [u8], words: &[u32]) -> usize {
+pub fn put_words(text: &mut [u8], words: &[u32]) -> usize
+    ensures { λ r. ⌜ Puts (now (text .entry)) 0 (wordsText (now (words .entry))) (now (text .exit)) r ⌝ }
+{
     let mut at = put_text(text, 0, b"words");
     let mut i: usize = 0;
     while i < words.len() {
@@ -48,13 +61,17 @@ pub fn put_words(text: &mut [u8], words: &[u32]) -> usize {
     at
 }
 
-fn put_used(text: &mut [u8], at: usize, used: usize) -> usize {
+fn put_used(text: &mut [u8], at: usize, used: usize) -> usize
+    ensures { λ r. ⌜ Puts (now (text .entry)) at (usedText used) (now (text .exit)) r ⌝ }
+{
     let at = put_text(text, at, b" used ");
     put_decimal(text, at, used)
 }
 
 // `.. used N`
-pub fn put_reading(text: &mut [u8], reading: Reading) -> usize {
+pub fn put_reading(text: &mut [u8], reading: Reading) -> usize
+    ensures { λ r. ⌜ Puts (now (text .entry)) 0 (readingText reading) (now (text .exit)) r ⌝ }
+{
     match reading {
         Reading::Ended(outcome, used) => {
             let at = put_outcome(text, outcome);
@@ -69,7 +86,9 @@ pub fn put_reading(text: &mut [u8], reading: Reading) -> usize {
 }
 
 // `.. packets N`
-pub fn put_exchange(text: &mut [u8], outcome: Outcome, packets: u32) -> usize {
+pub fn put_exchange(text: &mut [u8], outcome: Outcome, packets: u32) -> usize
+    ensures { λ r. ⌜ Puts (now (text .entry)) 0 (exchangeText outcome packets) (now (text .exit)) r ⌝ }
+{
     let at = put_outcome(text, outcome);
     let at = put_text(text, at, b" packets ");
     put_decimal(text, at, packets as usize)

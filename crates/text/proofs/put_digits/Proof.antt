@@ -1,56 +1,53 @@
-use lib.ListN.{length-take}
+use mathlib.Core.Path.{_≡_, refl}
 use native.Mathlib.Omega.{arith}
-use Prim.Native.Nat.{_≤_}
+use native.Mathlib.Nat.{mod-lt}
+use Rattle.text.specs.TextLaws.{Remains, all-remains, rest-remains, none-remains}
+use Rattle.text.specs.NumberText.{digitsText}
+use Rattle.text.specs.NumberTextLaws.{digits-on, digits-none}
 use lib.ListN.{length}
-use mathlib.Core.Path.{_≡_}
 use borrow.Author.Needs.{needs}
 use Rattle.text.proofs.put_digits.Statement.{statement}
 use Rattle.text.proofs.put_digits.Tie as tie
 
 abbrev Inv-loop : tie.InvT-loop
-Inv-loop text at value base width digits₀ rest₀ i₀ digits rest i = (i ≤ width) × (length digits ≡ 20)
+Inv-loop text₀ at value base digits to₀ left₀ text to left = (length text ≡ length text₀) × Remains text₀ at (digitsText base digits value) text to (digitsText base left value)
 
 abbrev μ-loop : tie.MeasureT-loop
-μ-loop text at value base width digits₀ rest₀ i₀ digits rest i = i
+μ-loop text₀ at value base digits to₀ left₀ text to left = left
 
 loop-holds : tie.Need-loop-holds Inv-loop μ-loop
-loop-holds c = search needs
+loop-holds c = (refl, all-remains _ _ _)
 
-sub-i : tie.Need-sub-i Inv-loop μ-loop
-sub-i c = search needs
+sub-left : tie.Need-sub-left Inv-loop μ-loop
+sub-left c = search needs
+
+shifted-requires : tie.Need-shifted-requires Inv-loop μ-loop
+shifted-requires c κs = search needs
 
 rem-digit-of : tie.Need-rem-digit-of Inv-loop μ-loop
 rem-digit-of c = search needs
 
 digit-of-requires : tie.Need-digit-of-requires Inv-loop μ-loop
-digit-of-requires c κs = search needs
+digit-of-requires c κs = let small = mod-lt (c .shifted .result) (c .before .before .before .before .before .pre .0) in omega (arith, c .before .before .before .before .before .pre .1)
 
-array-write-digits : tie.Need-array-write-digits Inv-loop μ-loop
-array-write-digits c = search needs
-
-div-rest : tie.Need-div-rest Inv-loop μ-loop
-div-rest c = search needs
+put-byte-requires : tie.Need-put-byte-requires Inv-loop μ-loop
+put-byte-requires c κs = search needs
 
 loop-less : tie.Need-loop-less Inv-loop μ-loop
 loop-less c = search needs
 
 loop-again : tie.Need-loop-again Inv-loop μ-loop
-loop-again c = search needs
-
-array-share-prefix-digits : tie.Need-array-share-prefix-digits Inv-loop μ-loop
-array-share-prefix-digits c = search needs
-
-slice-aggregate-put-text : tie.Need-slice-aggregate-put-text Inv-loop μ-loop
-slice-aggregate-put-text c = simp length-take (omega arith)
-
-put-text-requires : tie.Need-put-text-requires Inv-loop μ-loop
-put-text-requires c κs = search needs
+loop-again c =
+    let at = c .before .before .before .before .before .before .before .loop in (
+      search needs,
+      rest-remains (rw (digits-on _ (at .left) _ (c .before .before .before .before .before .before .loop-test .taken)) at (at .inv .1)) (rw (c .before .before .before .digit-of .ensures, c .before .before .before .before .shifted .ensures) at (c .before .before .put-byte .ensures)),
+    )
 
 same-length : tie.Need-same-length Inv-loop μ-loop
 same-length c = search needs
 
 returns : tie.Need-returns Inv-loop μ-loop
-returns c = search needs
+returns c = let at = c .before .loop in none-remains (rw (digits-none _ (at .left) _ (c .loop-test .left)) at (at .inv .1))
 
 pub put-digits-spec : {M : Type 1} → statement M
 put-digits-spec =
@@ -59,15 +56,12 @@ put-digits-spec =
     Inv-loop
     μ-loop
     loop-holds
-    sub-i
+    sub-left
+    shifted-requires
     rem-digit-of
     digit-of-requires
-    array-write-digits
-    div-rest
+    put-byte-requires
     loop-less
     loop-again
-    array-share-prefix-digits
-    slice-aggregate-put-text
-    put-text-requires
     same-length
     returns)

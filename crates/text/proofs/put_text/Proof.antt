@@ -1,18 +1,20 @@
+use lib.ListN.{length, drop, drop-of-length-le}
+use Rattle.text.specs.TextLaws.{Remains, all-remains, rest-remains, none-remains, part-on}
 use Prim.Native.Nat.{_≤_, _-_}
-use lib.ListN.{length}
-use mathlib.Core.Path.{_≡_}
+use mathlib.Core.Path.{_≡_, refl}
+use native.Mathlib.Omega.{arith}
 use borrow.Author.Needs.{needs}
 use Rattle.text.proofs.put_text.Statement.{statement}
 use Rattle.text.proofs.put_text.Tie as tie
 
 abbrev Inv-loop : tie.InvT-loop
-Inv-loop text₀ at part to₀ i₀ text to i = (i ≤ length part) × (length text ≡ length text₀)
+Inv-loop text₀ at part to₀ i₀ text to i = (i ≤ length part) × (length text ≡ length text₀) × Remains text₀ at part text to (drop i part)
 
 abbrev μ-loop : tie.MeasureT-loop
 μ-loop text₀ at part to₀ i₀ text to i = length part - i
 
 loop-holds : tie.Need-loop-holds Inv-loop μ-loop
-loop-holds c = search needs
+loop-holds c = (omega arith, refl, all-remains _ _ _)
 
 shared-slice-read-put-byte : tie.Need-shared-slice-read-put-byte Inv-loop μ-loop
 shared-slice-read-put-byte c = search needs
@@ -27,13 +29,13 @@ loop-less : tie.Need-loop-less Inv-loop μ-loop
 loop-less c = search needs
 
 loop-again : tie.Need-loop-again Inv-loop μ-loop
-loop-again c = search needs
+loop-again c = let at = c .before .before .before .before .before .before .loop in (omega arith, search needs, rest-remains (rw (part-on _ (at .i) (c .before .before .before .before .before .loop-test .taken)) at (at .inv .2)) (c .before .before .put-byte .ensures))
 
 same-length : tie.Need-same-length Inv-loop μ-loop
 same-length c = search needs
 
 returns : tie.Need-returns Inv-loop μ-loop
-returns c = search needs
+returns c = let at = c .before .loop in none-remains (rw (drop-of-length-le _ (c .loop-test .left)) at (at .inv .2))
 
 pub put-text-spec : {M : Type 1} → statement M
 put-text-spec =

@@ -1,37 +1,42 @@
-use Prim.Native.Nat.{_≤_, _-_}
+use Prim.Native.Nat.{_≤_, _-_, _/_, _^_}
+use mathlib.Core.Path.{_≡_, refl, sym, _∙_}
+use native.Mathlib.Omega.{arith}
+use Rattle.text.specs.NumberText.{widthFrom}
+use Rattle.text.specs.NumberTextLaws.{width-here, width-next, left-none, left-some, left-first, left-next}
 use borrow.Author.Needs.{needs}
 use Rattle.text.proofs.width_of.Statement.{statement}
 use Rattle.text.proofs.width_of.Tie as tie
 
 abbrev Inv-loop : tie.InvT-loop
-Inv-loop value base width₀ rest₀ width rest = width ≤ 20
+Inv-loop value base digits₀ rest₀ digits rest = (digits ≤ 20) × (rest ≡ value / base ^ digits) × (widthFrom base value (20 - digits) digits ≡ widthFrom base value 19 1)
 
 abbrev μ-loop : tie.MeasureT-loop
-μ-loop value base width₀ rest₀ width rest = 20 - width
+μ-loop value base digits₀ rest₀ digits rest = 20 - digits
 
 div-rest : tie.Need-div-rest Inv-loop μ-loop
 div-rest c = search needs
 
 loop-holds : tie.Need-loop-holds Inv-loop μ-loop
-loop-holds c = search needs
+loop-holds c = (omega arith, left-first _ _, refl)
 
 returns : tie.Need-returns Inv-loop μ-loop
-returns c = search needs
+returns c = let at = c .before .before .loop in sym (width-here _ _ (20 - at .digits) (at .digits) (left-none _ _ (at .digits) (c .before .before .before .pre) (sym (at .inv .1) ∙ c .if1 .taken))) ∙ at .inv .2
 
 div-rest-2 : tie.Need-div-rest-2 Inv-loop μ-loop
 div-rest-2 c = search needs
 
-add-width : tie.Need-add-width Inv-loop μ-loop
-add-width c = search needs
+add-digits : tie.Need-add-digits Inv-loop μ-loop
+add-digits c = search needs
 
 loop-less : tie.Need-loop-less Inv-loop μ-loop
 loop-less c = search needs
 
 loop-again : tie.Need-loop-again Inv-loop μ-loop
-loop-again c = search needs
+loop-again c = let at = c .before .before .loop in let some = rw (at .inv .1) at (c .if1 .left) in (omega arith, rw (at .inv .1) (left-next _ _ (at .digits)), sym (width-next _ _ 20 (at .digits) (c .before .loop-test .taken) (left-some _ _ (at .digits) some)) ∙ at .inv .2)
 
 returns-2 : tie.Need-returns-2 Inv-loop μ-loop
-returns-2 c = search needs
+unfolding widthFrom
+returns-2 c = let at = c .before .loop in let end : at .digits ≡ 20 = omega arith in rw end at (at .inv .2)
 
 pub width-of-spec : {M : Type 1} → statement M
 width-of-spec =
@@ -43,7 +48,7 @@ width-of-spec =
     loop-holds
     returns
     div-rest-2
-    add-width
+    add-digits
     loop-less
     loop-again
     returns-2)
