@@ -1,0 +1,4 @@
+pub mod ReplyText
+pub mod StateText
+pub mod StateTextMirror
+pub mod ReplyTextLaws
