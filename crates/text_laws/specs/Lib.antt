@@ -1,0 +1,5 @@
+pub mod ReadBackLaws
+pub mod NumberUnique
+pub mod ToldBackLaws
+pub mod ToldUnique
+pub mod TextExamples

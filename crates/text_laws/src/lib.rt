@@ -1,0 +1,1 @@
+// What is written is read back, and different answers have different text; no code.
