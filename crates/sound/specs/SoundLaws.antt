@@ -1,19 +1,21 @@
--- Laws: a fresh board is sound, a sound state is within the ranges of 12, and a packet keeps it sound.
+-- Laws: a fresh board is sound, a sound state is within the ranges of 12, and a packet keeps it sound; each reply is one of 01's list.
 use Prim.Native.Nat.{ℕ, zero, suc, _%_, _^_, _≤_, _<_}
 use native.Mathlib.Omega.{arith}
-use mathlib.Core.Path.{_≡_, refl}
+use mathlib.Core.Path.{_≡_, refl, ap, _∙_}
 use mathlib.Core.Bool.{Bool, true, false, cond, _||_}
 use lib.Dec.{eqb}
 use lib.Bits.{and-le-r}
 use lib.ListN.{set, replicate}
 use borrow.Author.Tests.{le-leb}
 use Rattle.laws.specs.TestLaws.{either}
+use Rattle.memory.specs.declared.Size.{Size}
 use Rattle.memory.specs.Memory.{AllBelow}
 use Rattle.memory.specs.MemoryLaws.{set-keeps-below}
 use Rattle.command.specs.declared.DebugRegister.{DebugRegister}
 use Rattle.command.specs.declared.DebugRegister.the-variants.{Csr, Baar, Aatr, Tdr, Pbr, Pbmr, Abhr, Ablr, Dbr, Dbmr}
 use Rattle.command.specs.declared.Command.{Command}
-use Rattle.command.specs.Command.{debugNumber, operandWords}
+use Rattle.command.specs.Command.{debugNumber, operandWords, write, fill}
+use Rattle.command.specs.Reply.{complete}
 use Rattle.board.specs.declared.Board.{Board}
 use Rattle.board.specs.declared.Status.{Status}
 use Rattle.board.specs.declared.Debug.{Debug}
@@ -26,13 +28,14 @@ use Rattle.board.specs.Ranges.{phaseInRange, bstatInRange, inRange}
 use Rattle.registers.specs.Csr.{flag, csrWritten, bstatRead}
 use Rattle.registers.specs.Registers.{is, controlIndex, controlListed, armed, debugLoaded, generalWritten, controlWritten, debugWritten, boardAfter}
 use Rattle.registers.specs.ChangeLaws.{each-change}
+use Rattle.work.specs.WorkLaws.{no-other-changes-memory}
 use Rattle.plan.specs.declared.Plan.{Plan}
 use Rattle.plan.specs.declared.Plan.the-variants.{Hold, Reject, Release, Work}
 use Rattle.board.specs.Setters.{withStatus, withRegisters, withControl}
 use Rattle.board.specs.State.{State, standingOf}
-use Rattle.step.specs.Step.{left, planFor, stepped}
+use Rattle.step.specs.Step.{replyIn, replyNow, left, planFor, stepped}
 use Rattle.sound.specs.SoundPlanLaws.{PlanWithin, plan-within}
-use Rattle.sound.specs.SoundWorkLaws.{work-keeps-memory, work-keeps-place}
+use Rattle.sound.specs.SoundWorkLaws.{work-keeps-memory, work-keeps-place, listedReply, work-reply-listed}
 use Rattle.sound.specs.Sound.{DebugWithin, SoundBoard, PhaseWithin, SoundPlace, SoundMemory, Sound}
 
 -- ---- the board
@@ -122,6 +125,12 @@ module _ (w : ℕ) (b : Board) (h : SoundBoard w b) where
       c
 
 -- ---- the packet
+reply-in-listed : (phase : Phase) (next : ℕ) → listedReply next ≡ true → listedReply (replyIn phase next) ≡ true
+reply-in-listed Rest next h = h
+reply-in-listed (Due c left t) next h = refl
+reply-in-listed (Waiting c left a v) next h = refl
+reply-in-listed (Upper low) next h = h
+
 module _ (w : ℕ) (s : State) (h : SoundBoard w (s .board)) (k : SoundPlace w (s .place)) (l : SoundMemory (s .memory)) where
   plan-keeps-place : (plan : Plan) → PlanWithin w plan → SoundPlace w (left plan s .place)
   plan-keeps-place (Hold phase) f = record { phase = f; next = omega arith; pointer = k .pointer }
@@ -157,6 +166,19 @@ module _ (w : ℕ) (s : State) (h : SoundBoard w (s .board)) (k : SoundPlace w (
   unfolding stepped
   packet-keeps-memory word = plan-keeps-memory (planFor (s .board) (s .place) word)
 
+  plan-reply-listed : (plan : Plan) → PlanWithin w plan → listedReply (left plan s .place .next) ≡ true
+  plan-reply-listed (Hold phase) f = refl
+  plan-reply-listed Reject f = refl
+  plan-reply-listed (Release low) f = rw (le-leb low complete (omega arith))
+  plan-reply-listed (Work c a v) f = work-reply-listed w c (s .board) (s .place) (s .memory) a h l
+
+  -- whatever was held before, the reply that a packet leaves is one of the list
+  pub packet-leaves-listed-reply : (word : ℕ) → listedReply (replyNow (stepped s word .place)) ≡ true
+  unfolding stepped replyNow
+  packet-leaves-listed-reply word =
+      let after = left (planFor (s .board) (s .place) word) s .place in
+      reply-in-listed (after .phase) (after .next) (plan-reply-listed (planFor (s .board) (s .place) word) (within word))
+
 -- ---- W, whatever is held
 control-keeps-w : (b : Board) (n v : ℕ) → controlWritten b n v .w ≡ b .w
 unfolding controlWritten
@@ -179,6 +201,22 @@ packet-keeps-w s word = by-plan (planFor (s .board) (s .place) word)
     by-plan Reject = refl
     by-plan (Release low) = refl
     by-plan (Work c a v) = work-keeps-w c (s .board) a v
+
+-- ---- "memory changes only by WRITE and FILL"
+pub no-other-packet-changes-memory : (s : State) (word : ℕ)
+    → ((z : Size) (a v : ℕ) → planFor (s .board) (s .place) word ≡ Work (write z) a v → ⊥)
+    → ((z : Size) (a v : ℕ) → planFor (s .board) (s .place) word ≡ Work (fill z) a v → ⊥)
+    → stepped s word .memory ≡ s .memory
+unfolding stepped
+no-other-packet-changes-memory s word f g = by-plan (planFor (s .board) (s .place) word) refl
+  where
+    by-plan : (plan : Plan) → planFor (s .board) (s .place) word ≡ plan → left plan s .memory ≡ s .memory
+    by-plan (Hold phase) e = refl
+    by-plan Reject e = refl
+    by-plan (Release low) e = refl
+    by-plan (Work c a v) e =
+        no-other-changes-memory c (λ z h. f z a v (e ∙ ap (λ x. Work x a v) h)) (λ z h. g z a v (e ∙ ap (λ x. Work x a v) h))
+        (s .memory) (s .place .pointer) a v
 
 -- ---- a state
 pub packet-keeps-sound : {s : State} → Sound s → (word : ℕ) → Sound (stepped s word)
@@ -244,3 +282,7 @@ fresh-board-is-sound w h =
 pub fresh-place-is-sound : (w : ℕ) → SoundPlace w freshPlace
 unfolding freshPlace
 fresh-place-is-sound w = record { phase = tt; next = omega arith; pointer = omega arith }
+
+pub fresh-reply-is-listed : listedReply (replyNow freshPlace) ≡ true
+unfolding freshPlace replyNow
+fresh-reply-is-listed = refl

@@ -1,12 +1,13 @@
--- Laws: the work of a command keeps the board, the place and memory sound.
-use Prim.Native.Nat.{ℕ, _+_, _-_, _%_, _^_, _≤_, _<_}
+-- Laws: the work of a command keeps the board, the place and memory sound, and its reply is one of 01's list.
+use Prim.Native.Nat.{ℕ, _+_, _-_, _/_, _%_, _^_, _≤_, _<_}
 use native.Mathlib.Omega.{arith}
-use mathlib.Core.Path.{_≡_}
-use mathlib.Core.Bool.{Bool, true, false}
+use mathlib.Core.Path.{_≡_, refl}
+use mathlib.Core.Bool.{Bool, true, false, _||_}
 use mathlib.Core.List.{List}
 use lib.Bits.{and-le-r}
+use lib.Dec.{eqb, leb}
 use lib.ListN.{length, getD}
-use borrow.Author.Tests.{leb-true}
+use borrow.Author.Tests.{leb-true, le-leb}
 use Rattle.laws.specs.TestLaws.{either}
 use Rattle.memory.specs.declared.Size.{Size}
 use Rattle.memory.specs.declared.Size.the-variants.{Byte, Word, Long}
@@ -17,6 +18,7 @@ use Rattle.command.specs.declared.Command.{Command}
 use Rattle.command.specs.declared.Command.the-variants.{Unknown, Nop, Load, Store, Show, Change}
 use Rattle.command.specs.declared.Source.{Source}
 use Rattle.command.specs.declared.Source.the-variants as source
+use Rattle.command.specs.Reply.{complete, notReady, busError, illegal}
 use Rattle.board.specs.declared.Board.{Board}
 use Rattle.board.specs.declared.Place.{Place}
 use Rattle.registers.specs.Csr.{flag, csrValue}
@@ -119,6 +121,16 @@ next-within Failed h = omega arith
 next-within (OneWord v) h = omega arith
 next-within (TwoWords v) h = omega arith
 
+-- "Replies: S=0 with data, or 0x0FFFF complete; 0x10000 not ready; 0x10001 bus error; 0x1FFFF illegal."
+abbrev pub listedReply : ℕ → Bool
+listedReply r = leb r complete || eqb r notReady || eqb r busError || eqb r illegal
+
+first-reply-listed : (e : Ending) → EndingWithin e → listedReply (firstReply e) ≡ true
+first-reply-listed Complete h = refl
+first-reply-listed Failed h = refl
+first-reply-listed (OneWord v) h = rw (le-leb v complete (omega arith))
+first-reply-listed (TwoWords v) h = rw (le-leb (v / 65536) complete (omega arith))
+
 phase-after-within : (w : ℕ) (e : Ending) → PhaseWithin w (phaseAfter e)
 phase-after-within w Complete = tt
 phase-after-within w Failed = tt
@@ -140,3 +152,8 @@ work-keeps-place w c b p m a h k l =
       next = next-within (endingOf c b a (accessOf c m (p .pointer) a)) (ending-within w c b a (accessOf c m (p .pointer) a) h x);
       pointer = pointer-within (accessOf c m (p .pointer) a) (p .pointer) x (k .pointer);
     }
+
+pub work-reply-listed : (w : ℕ) (c : Command) (b : Board) (p : Place) (m : List ℕ) (address : ℕ) → SoundBoard w b → SoundMemory m
+    → listedReply (firstReply (endingOf c b address (accessOf c m (p .pointer) address))) ≡ true
+work-reply-listed w c b p m a h l =
+    let x = accessOf c m (p .pointer) a in first-reply-listed (endingOf c b a x) (ending-within w c b a x h (access-within c m (p .pointer) a l))
