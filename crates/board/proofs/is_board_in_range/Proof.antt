@@ -7,10 +7,10 @@ is-bstat-requires : tie.Need-is-bstat-requires
 is-bstat-requires c κs = search needs
 
 returns : tie.Need-returns
-returns c = rw (le-leb _ _ (c .before .if1 .taken)) (c .is-bstat .ensures)
+returns c = rw (le-leb _ 15 (c .before .if1 .taken)) (c .is-bstat .ensures)
 
 returns-2 : tie.Need-returns-2
-returns-2 c = rw (lt-leb _ _ (c .if1 .left))
+returns-2 c = rw (lt-leb _ 15 (c .if1 .left))
 
 pub is-board-in-range-spec : {M : Type 1} → statement M
 is-board-in-range-spec = tie.close (tie.spec is-bstat-requires returns returns-2)

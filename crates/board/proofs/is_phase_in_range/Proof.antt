@@ -22,10 +22,10 @@ does-wait-requires : tie.Need-does-wait-requires
 does-wait-requires c κs = search needs
 
 returns-2 : tie.Need-returns-2
-returns-2 c = rw (c .before .before .before .before .phase2 .given .1, le-leb _ _ (c .before .before .if2 .taken), le-leb _ _ (c .before .if3 .taken), ← c .does-wait .ensures)
+returns-2 c = rw (c .before .before .before .before .phase2 .given .1, le-leb _ _ (c .before .before .if2 .taken), le-leb _ (c .before .before .before .before .before .before .args .w) (c .before .if3 .taken), ← c .does-wait .ensures)
 
 returns-3 : tie.Need-returns-3
-returns-3 c = rw (c .before .before .before .phase2 .given .1, le-leb _ _ (c .before .if2 .taken), lt-leb _ _ (c .if3 .left))
+returns-3 c = rw (c .before .before .before .phase2 .given .1, le-leb _ _ (c .before .if2 .taken), lt-leb _ (c .before .before .before .before .before .args .w) (c .if3 .left))
 
 enum-told-2 : tie.Need-enum-told-2
 enum-told-2 c = search needs

@@ -27,10 +27,10 @@ enum-known-phase-3 : tie.Need-enum-known-phase-3
 enum-known-phase-3 c = search needs
 
 returns : tie.Need-returns
-returns c = rw (c .before .enum-told .given .1, ← c .begin .ensures)
+returns c = rw (c .before .enum-told .given .1) (c .begin .ensures)
 
 returns-2 : tie.Need-returns-2
-returns-2 c = rw (c .before .before .phase .given .1, ← c .go-on .ensures)
+returns-2 c = rw (c .before .before .phase .given .1) (c .go-on .ensures)
 
 returns-3 : tie.Need-returns-3
 returns-3 c = rw (c .before .before .before .phase2 .given .1, ← c .before .less-one .ensures, ← c .wait-or-work .ensures)
