@@ -19,7 +19,7 @@ take-second-requires : tie.Need-take-second-requires
 take-second-requires c κs = search needs
 
 returns-2 : tie.Need-returns-2
-returns-2 c = rw (c .before .before .before .reader .given .1, le-leb _ _ (c .before .if2 .taken), ← c .take-second .ensures)
+returns-2 c = rw (c .before .before .before .reader .given .1, le-leb _ _ (c .before .if2 .taken)) (c .take-second .ensures)
 
 enum-known-reader-2 : tie.Need-enum-known-reader-2
 enum-known-reader-2 c = search needs
