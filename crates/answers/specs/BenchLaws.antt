@@ -18,7 +18,8 @@ use Rattle.answers.specs.Bench.{benchOf}
 setting-asked : (w : ℕ) → makingVerdict w ≡ Accepted → settingMade w ≡ w
 setting-asked w e = rw (accepted-holds (leb w 15) WaitTooLarge [] e .0)
 
-judged : {w : ℕ} {made : Made} {v : Verdict} → MakingMeets w made → made .verdict ≡ v → makingVerdict w ≡ v
+-- what making answered is its verdict
+pub judged : {w : ℕ} {made : Made} {v : Verdict} → MakingMeets w made → made .verdict ≡ v → makingVerdict w ≡ v
 judged {w} {made} making e = sym (told-unique (made .verdict) (makingVerdict w) (making .answer)) ∙ e
 
 pub made-anew : {w : ℕ} {made : Made} (bench : Bench) → MakingMeets w made → made .verdict ≡ Accepted

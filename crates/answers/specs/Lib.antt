@@ -1,2 +1,4 @@
 pub mod Bench
+pub mod Said
 pub mod BenchLaws
+pub mod SaidLaws

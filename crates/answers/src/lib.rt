@@ -9,12 +9,17 @@ use text::request::put_refusal;
 use text::request::put_unclear;
 use trigger::Event;
 ghost use mathlib.Core.Path.{_≡_};
+ghost use lib.ListN.{take};
 ghost use lib.Seq.{sets};
+ghost use Rattle.text.specs.Text.{Puts};
+ghost use Rattle.replies.specs.ReplyText.{packetText, eventText, breakpointText};
+ghost use Rattle.replies.specs.StateText.{stateText};
 ghost use Rattle.board.specs.Board.{freshBoard, freshPlace, makingVerdict};
 ghost use Rattle.grounds.specs.Grounds.{ifAccepted};
-ghost use Rattle.bus.specs.Events.{boardAfterEvent, boardAfterBreakpoint};
-ghost use Rattle.lent.specs.Lent.{zeros, bytesPut};
-ghost use Rattle.answers.specs.Bench.{access, benchOf, stepped, overLent, leaves};
+ghost use Rattle.bus.specs.Events.{eventOutcome, boardAfterEvent, breakpointOutcome, boardAfterBreakpoint};
+ghost use Rattle.lent.specs.Lent.{zeros, fits, bytesPut};
+ghost use Rattle.answers.specs.Bench.{access, benchOf, left, stepped, overLent};
+ghost use Rattle.answers.specs.Said.{madeText, memoryText, bytesPutText, peekedText, packetOutcome, Answers, LineMeets};
 
 // The board, the place, and how many bytes of memory are lent.
 pub struct Bench {
@@ -58,7 +63,8 @@ pub fn bench_after(board: Board, place: Place, lent: usize, end: usize) -> Answe
 }
 
 fn make(w: u32, bench: Bench, text: &mut [u8]) -> Answered
-    ensures { λ r. ⌜ r .bench ≡ ifAccepted (makingVerdict w) (benchOf (freshBoard w) freshPlace (bench .lent)) bench ⌝ }
+    ensures { λ r. ⌜ (r .bench ≡ ifAccepted (makingVerdict w) (benchOf (freshBoard w) freshPlace (bench .lent)) bench)
+        × Puts (now (text .entry)) 0 (madeText (makingVerdict w)) (now (text .exit)) (r .end) ⌝ }
 {
     let made = board::make(w);
     let verdict = made.verdict;
@@ -77,8 +83,9 @@ fn make(w: u32, bench: Bench, text: &mut [u8]) -> Answered
 }
 
 fn lend(n: u32, bench: Bench, memory: &mut [u8], text: &mut [u8]) -> Answered
-    ensures { λ r. ⌜ (r .bench ≡ benchOf (bench .board) (bench .place) n)
-        × (now (memory .exit) ≡ sets (now (memory .entry)) 0 (zeros n)) ⌝ }
+    ensures { λ r. ⌜ Answers (left (benchOf (bench .board) (bench .place) n) (sets (now (memory .entry)) 0 (zeros n)))
+        (memoryText n)
+        (now (text .entry)) r (now (memory .exit)) (now (text .exit)) ⌝ }
 {
     let count = n as usize;
     lent::clear(memory, count);
@@ -98,8 +105,9 @@ fn put_bytes(
     memory: &mut [u8],
     text: &mut [u8],
 ) -> Answered
-    ensures { λ r. ⌜ (r .bench ≡ bench)
-        × (now (memory .exit) ≡ bytesPut (now (line .entry)) start count address (bench .lent) (now (memory .entry))) ⌝ }
+    ensures { λ r. ⌜ Answers (left bench (bytesPut (now (line .entry)) start count address (bench .lent) (now (memory .entry))))
+        (bytesPutText (fits address count (bench .lent)) count)
+        (now (text .entry)) r (now (memory .exit)) (now (text .exit)) ⌝ }
 {
     if lent::put_bytes(line, start, count, address, bench.lent, memory) {
         let at = text::put_text(text, 0, b"bytes ");
@@ -115,7 +123,9 @@ fn put_bytes(
 }
 
 fn show_bytes(address: u32, count: u32, bench: Bench, memory: &[u8], text: &mut [u8]) -> Answered
-    ensures { λ r. ⌜ r .bench ≡ bench ⌝ }
+    ensures { λ r. ⌜ (r .bench ≡ bench)
+        × Puts (now (text .entry)) 0 (peekedText (fits address count (bench .lent)) (now (memory .entry)) address count)
+        (now (text .exit)) (r .end) ⌝ }
 {
     if lent::is_lent(address, count as usize, bench.lent) {
         return Answered {
@@ -130,8 +140,9 @@ fn show_bytes(address: u32, count: u32, bench: Bench, memory: &[u8], text: &mut 
 }
 
 fn take_word(word: u32, bench: Bench, memory: &mut [u8], text: &mut [u8]) -> Answered
-    ensures { λ r. ⌜ (r .bench ≡ stepped word bench (now (memory .entry)) .bench)
-        × (now (memory .exit) ≡ stepped word bench (now (memory .entry)) .memory) ⌝ }
+    ensures { λ r. ⌜ Answers (stepped word bench (now (memory .entry)))
+        (packetText (packetOutcome word bench (now (memory .entry))))
+        (now (text .entry)) r (now (memory .exit)) (now (text .exit)) ⌝ }
 {
     let board = bench.board;
     let place = bench.place;
@@ -144,7 +155,8 @@ fn take_word(word: u32, bench: Bench, memory: &mut [u8], text: &mut [u8]) -> Ans
 }
 
 fn watch(event: Event, bench: Bench, text: &mut [u8]) -> Answered
-    ensures { λ r. ⌜ r .bench ≡ benchOf (boardAfterEvent (bench .board) (bench .place) event) (bench .place) (bench .lent) ⌝ }
+    ensures { λ r. ⌜ (r .bench ≡ benchOf (boardAfterEvent (bench .board) (bench .place) event) (bench .place) (bench .lent))
+        × Puts (now (text .entry)) 0 (eventText (eventOutcome (bench .board) (bench .place) event)) (now (text .exit)) (r .end) ⌝ }
 {
     let board = bench.board;
     let place = bench.place;
@@ -156,7 +168,8 @@ fn watch(event: Event, bench: Bench, text: &mut [u8]) -> Answered
 }
 
 fn press(bench: Bench, text: &mut [u8]) -> Answered
-    ensures { λ r. ⌜ r .bench ≡ benchOf (boardAfterBreakpoint (bench .board) (bench .place)) (bench .place) (bench .lent) ⌝ }
+    ensures { λ r. ⌜ (r .bench ≡ benchOf (boardAfterBreakpoint (bench .board) (bench .place)) (bench .place) (bench .lent))
+        × Puts (now (text .entry)) 0 (breakpointText (breakpointOutcome (bench .board) (bench .place))) (now (text .exit)) (r .end) ⌝ }
 {
     let board = bench.board;
     let place = bench.place;
@@ -168,7 +181,7 @@ fn press(bench: Bench, text: &mut [u8]) -> Answered
 }
 
 fn tell_state(bench: Bench, text: &mut [u8]) -> Answered
-    ensures { λ r. ⌜ r .bench ≡ bench ⌝ }
+    ensures { λ r. ⌜ (r .bench ≡ bench) × Puts (now (text .entry)) 0 (stateText (bench .board) (bench .place)) (now (text .exit)) (r .end) ⌝ }
 {
     let board = bench.board;
     let place = bench.place;
@@ -192,8 +205,9 @@ fn carrying(pc: u32, address: u32, attribute: u32, lanes: u32) -> Event
 }
 
 fn packet_line(word: u32, bench: Bench, memory: &mut [u8], text: &mut [u8]) -> Answered
-    ensures { λ r. ⌜ (r .bench ≡ overLent (stepped word) bench (now (memory .entry)) .bench)
-        × (now (memory .exit) ≡ overLent (stepped word) bench (now (memory .entry)) .memory) ⌝ }
+    ensures { λ r. ⌜ Answers (overLent (stepped word) bench (now (memory .entry)))
+        (packetText (packetOutcome word bench (take (bench .lent) (now (memory .entry)))))
+        (now (text .entry)) r (now (memory .exit)) (now (text .exit)) ⌝ }
 {
     let n = lent::lent_of(bench.lent, memory.len());
     take_word(word, bench, &mut memory[..n], text)
@@ -207,8 +221,8 @@ pub fn answer_line(
     memory: &mut [u8],
     text: &mut [u8],
 ) -> Answered
-    ensures { λ r. ⌜ (r .bench ≡ leaves (now (line .entry)) asked bench (now (memory .entry)) .bench)
-        × (now (memory .exit) ≡ leaves (now (line .entry)) asked bench (now (memory .entry)) .memory) ⌝ }
+    ensures { λ r. ⌜ LineMeets (now (line .entry)) asked bench (now (memory .entry)) (now (text .entry))
+        r (now (memory .exit)) (now (text .exit)) ⌝ }
 {
     match asked {
         BoardLine::Nothing => Answered {

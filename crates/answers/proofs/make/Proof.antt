@@ -1,5 +1,5 @@
 use mathlib.Core.Path.{_∙_}
-use Rattle.answers.specs.BenchLaws.{made-anew, kept-old}
+use Rattle.answers.specs.BenchLaws.{judged, made-anew, kept-old}
 use borrow.Author.Needs.{needs}
 use Rattle.answers.proofs.make.Statement.{statement}
 use Rattle.answers.proofs.make.Tie as tie
@@ -30,14 +30,18 @@ same-length c = search needs
 
 returns : tie.Need-returns
 returns c =
-    c .bench-after .ensures .0
-    ∙ made-anew (c .before .before .before .before .before .before .before .before .before .before .before .before .args .bench) (c .before .before .before .before .before .before .before .before .before .before .make .ensures) (c .before .before .before .before .before .before .enum-told .given .1)
+    let made = c .before .before .before .before .before .before .before .before .before .before .make .ensures in
+    let accepted = c .before .before .before .before .before .before .enum-told .given .1 in
+    (c .bench-after .ensures .0 ∙ made-anew (c .before .before .before .before .before .before .before .before .before .before .before .before .args .bench) made accepted, rw (judged made accepted, c .bench-after .ensures .1) (c .before .before .before .put-text .ensures))
 
 same-length-2 : tie.Need-same-length-2
 same-length-2 c = search needs
 
 returns-2 : tie.Need-returns-2
-returns-2 c = kept-old (c .before .before .before .before .before .before .before .before .before .before .before .args .bench) (c .before .before .before .before .before .before .before .before .before .make .ensures) (c .before .before .before .before .before .verdict .given .1)
+returns-2 c =
+    let made = c .before .before .before .before .before .before .before .before .before .make .ensures in
+    let refused = c .before .before .before .before .before .verdict .given .1 in
+    (kept-old (c .before .before .before .before .before .before .before .before .before .before .before .args .bench) made refused, rw (judged made refused) (c .before .before .put-refusal .ensures))
 
 pub make-spec : {M : Type 1} → statement M
 make-spec =

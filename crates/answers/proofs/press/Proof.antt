@@ -1,3 +1,4 @@
+use Rattle.answers.specs.SaidLaws.{breakpoint-outcome}
 use borrow.Author.Needs.{needs}
 use Rattle.answers.proofs.press.Statement.{statement}
 use Rattle.answers.proofs.press.Tie as tie
@@ -15,7 +16,7 @@ same-length : tie.Need-same-length
 same-length c = search needs
 
 returns : tie.Need-returns
-returns c = rw (← c .before .before .before .before .before .before .press-breakpoint .ensures .board) (c .bench-after .ensures .0)
+returns c = let taken = c .before .before .before .before .before .before .press-breakpoint .ensures in (rw (← taken .board) (c .bench-after .ensures .0), rw (← breakpoint-outcome taken, c .bench-after .ensures .1) (c .before .before .before .put-breakpoint .ensures))
 
 pub press-spec : {M : Type 1} → statement M
 press-spec =

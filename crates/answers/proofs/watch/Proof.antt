@@ -1,3 +1,4 @@
+use Rattle.answers.specs.SaidLaws.{event-outcome}
 use borrow.Author.Needs.{needs}
 use Rattle.answers.proofs.watch.Statement.{statement}
 use Rattle.answers.proofs.watch.Tie as tie
@@ -15,7 +16,7 @@ same-length : tie.Need-same-length
 same-length c = search needs
 
 returns : tie.Need-returns
-returns c = rw (← c .before .before .before .before .before .before .take-event .ensures .board) (c .bench-after .ensures .0)
+returns c = let taken = c .before .before .before .before .before .before .take-event .ensures in (rw (← taken .board) (c .bench-after .ensures .0), rw (← event-outcome taken, c .bench-after .ensures .1) (c .before .before .before .put-event .ensures))
 
 pub watch-spec : {M : Type 1} → statement M
 watch-spec =
