@@ -1,7 +1,9 @@
 // A request asked of the bench: sent, and its replies read (the desk's language, `talk`).
-ghost use mathlib.Core.Path.{_≡_};
+ghost use lib.ListN.{take};
+ghost use Rattle.text.specs.Text.{Puts};
 ghost use Rattle.answers.specs.Bench.{overLent};
-ghost use Rattle.asking.specs.Asking.{exchanged};
+ghost use Rattle.answers.specs.Said.{Answers};
+ghost use Rattle.asking.specs.Asking.{exchanged, exchangedText, exchangeSaid};
 use answers::Answered;
 use answers::Bench;
 use exchange::Exchanged;
@@ -9,7 +11,9 @@ use requests::Request;
 use text::request::put_exchange;
 use text::request::put_refusal;
 
-fn put_exchanged(text: &mut [u8], answer: Exchanged) -> usize {
+fn put_exchanged(text: &mut [u8], answer: Exchanged) -> usize
+    ensures { λ r. ⌜ Puts (now (text .entry)) 0 (exchangedText answer) (now (text .exit)) r ⌝ }
+{
     match answer {
         Exchanged::Ended(outcome, packets) => put_exchange(text, outcome, packets),
         Exchanged::Refused(ground) => put_refusal(text, ground),
@@ -17,8 +21,9 @@ fn put_exchanged(text: &mut [u8], answer: Exchanged) -> usize {
 }
 
 fn converse(request: Request, bench: Bench, memory: &mut [u8], text: &mut [u8]) -> Answered
-    ensures { λ r. ⌜ (r .bench ≡ exchanged request bench (now (memory .entry)) .bench)
-        × (now (memory .exit) ≡ exchanged request bench (now (memory .entry)) .memory) ⌝ }
+    ensures { λ r. ⌜ Answers (exchanged request bench (now (memory .entry)))
+        (exchangeSaid request bench (now (memory .entry)))
+        (now (text .entry)) r (now (memory .exit)) (now (text .exit)) ⌝ }
 {
     let board = bench.board;
     let place = bench.place;
@@ -32,8 +37,9 @@ fn converse(request: Request, bench: Bench, memory: &mut [u8], text: &mut [u8]) 
 
 // The exchange over the bytes lent, of those that there are.
 pub fn ask(request: Request, bench: Bench, memory: &mut [u8], text: &mut [u8]) -> Answered
-    ensures { λ r. ⌜ (r .bench ≡ overLent (exchanged request) bench (now (memory .entry)) .bench)
-        × (now (memory .exit) ≡ overLent (exchanged request) bench (now (memory .entry)) .memory) ⌝ }
+    ensures { λ r. ⌜ Answers (overLent (exchanged request) bench (now (memory .entry)))
+        (exchangeSaid request bench (take (bench .lent) (now (memory .entry))))
+        (now (text .entry)) r (now (memory .exit)) (now (text .exit)) ⌝ }
 {
     let n = lent::lent_of(bench.lent, memory.len());
     converse(request, bench, &mut memory[..n], text)

@@ -28,7 +28,11 @@ returns c =
     let at = c .before .before .before .before .before .before .before .before .before .before .args in
     let part = lent-part (at .bench .lent) (c .before .before .before .before .before .before .before .lent-of .result) (at .memory .now) (c .before .before .before .before .before .before .before .lent-of .ensures) in
     let taken = c .before .before .before .before .converse .ensures in
-    (rw (← part .0) (taken .0), rw (← part .0, ← part .1, taken .1))
+    record {
+      bench = rw (← part .0) (taken .bench);
+      memory = rw (← part .0, ← part .1, taken .memory);
+      text = rw (← part .0) (taken .text);
+    }
 
 pub ask-spec : {M : Type 1} → statement M
 ask-spec =

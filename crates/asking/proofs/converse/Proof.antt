@@ -1,3 +1,4 @@
+use Rattle.asking.specs.AskingLaws.{exchange-outcome}
 use mathlib.Core.Path.{ap, _∙_}
 use Rattle.board.specs.State.{State}
 use Rattle.answers.specs.Bench.{withState}
@@ -24,7 +25,11 @@ returns : tie.Need-returns
 returns c =
     let taken = c .before .before .before .before .before .before .before .before .before .exchange .ensures in
     let bench = c .before .before .before .before .before .before .before .before .before .before .before .before .before .before .before .args .bench in
-    (c .bench-after .ensures .0 ∙ ap (λ (s : State). withState bench s .bench) (taken .state), ap (λ (s : State). s .memory) (taken .state))
+    record {
+      bench = c .bench-after .ensures .0 ∙ ap (λ (s : State). withState bench s .bench) (taken .state);
+      memory = ap (λ (s : State). s .memory) (taken .state);
+      text = rw (← exchange-outcome taken, c .bench-after .ensures .1) (c .before .before .before .put-exchanged .ensures);
+    }
 
 pub converse-spec : {M : Type 1} → statement M
 converse-spec =
