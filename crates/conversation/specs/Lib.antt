@@ -1,1 +1,3 @@
+pub mod PodSaid
+pub mod PodSaidLaws
 pub mod Heard

@@ -1,7 +1,7 @@
 // A conversation: a line answered in one of the desk's languages, and line after line to the end of the input.
 ghost use mathlib.Core.Path.{_≡_};
 ghost use Rattle.conversation.specs.declared.Heard.the-variants.{OfBench};
-ghost use Rattle.conversation.specs.Heard.{heard, after};
+ghost use Rattle.conversation.specs.Heard.{heard, HeardMeets};
 use answers::Answered;
 use answers::Bench;
 use console::Input;
@@ -46,8 +46,8 @@ fn answer_of_bench(
     memory: &mut [u8],
     text: &mut [u8],
 ) -> Answered
-    ensures { λ r. ⌜ (r .bench ≡ after (now (line .entry)) (OfBench asked) bench (now (memory .entry)) .bench)
-        × (now (memory .exit) ≡ after (now (line .entry)) (OfBench asked) bench (now (memory .entry)) .memory) ⌝ }
+    ensures { λ r. ⌜ HeardMeets (now (line .entry)) (OfBench asked) bench (now (memory .entry)) (now (text .entry))
+        r (now (memory .exit)) (now (text .exit)) ⌝ }
 {
     match asked {
         TalkLine::Board(asked) => answers::answer_line(line, asked, bench, memory, text),
@@ -63,8 +63,8 @@ pub fn answer(
     memory: &mut [u8],
     text: &mut [u8],
 ) -> Answered
-    ensures { λ r. ⌜ (r .bench ≡ after (now (line .entry)) (heard language (now (line .entry))) bench (now (memory .entry)) .bench)
-        × (now (memory .exit) ≡ after (now (line .entry)) (heard language (now (line .entry))) bench (now (memory .entry)) .memory) ⌝ }
+    ensures { λ r. ⌜ HeardMeets (now (line .entry)) (heard language (now (line .entry))) bench (now (memory .entry)) (now (text .entry))
+        r (now (memory .exit)) (now (text .exit)) ⌝ }
 {
     let meant = hear(language, line);
     match meant {

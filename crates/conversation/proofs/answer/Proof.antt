@@ -1,4 +1,4 @@
-use Rattle.conversation.specs.Heard.{after}
+use Rattle.conversation.specs.Heard.{after, saidTo}
 use mathlib.Core.Path.{refl}
 use borrow.Author.Needs.{needs}
 use Rattle.conversation.proofs.answer.Statement.{statement}
@@ -32,8 +32,8 @@ same-length-3 : tie.Need-same-length-3
 same-length-3 c = search needs
 
 returns-2 : tie.Need-returns-2
-unfolding after
-returns-2 c = rw (← c .before .before .before .before .before .before .hear .ensures, c .before .before .before .before .enum-told .given .1) (refl, refl)
+unfolding after saidTo
+returns-2 c = rw (← c .before .before .before .before .before .before .hear .ensures, c .before .before .before .before .enum-told .given .1) (record { bench = refl; memory = refl; text = c .before .before .answer .ensures })
 
 pub answer-spec : {M : Type 1} → statement M
 answer-spec =

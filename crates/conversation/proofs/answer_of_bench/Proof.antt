@@ -1,4 +1,4 @@
-use Rattle.conversation.specs.Heard.{after}
+use Rattle.conversation.specs.Heard.{after, saidTo}
 use borrow.Author.Needs.{needs}
 use Rattle.conversation.proofs.answer_of_bench.Statement.{statement}
 use Rattle.conversation.proofs.answer_of_bench.Tie as tie
@@ -22,7 +22,7 @@ same-length-2 : tie.Need-same-length-2
 same-length-2 c = search needs
 
 returns : tie.Need-returns
-unfolding after
+unfolding after saidTo
 returns c = rw (c .before .before .before .before .before .before .before .before .asked .given .1) (c .before .before .before .before .answer-line .ensures)
 
 same-length-3 : tie.Need-same-length-3
@@ -32,7 +32,7 @@ same-length-4 : tie.Need-same-length-4
 same-length-4 c = search needs
 
 returns-2 : tie.Need-returns-2
-unfolding after
+unfolding after saidTo
 returns-2 c = rw (c .before .before .before .before .before .before .before .before .asked2 .given .1) (c .before .before .before .before .ask .ensures)
 
 pub answer-of-bench-spec : {M : Type 1} → statement M

@@ -1,11 +1,12 @@
 use lib.ListN.{length-take}
 use native.Mathlib.Omega.{arith}
+use Rattle.conversation.specs.PodSaidLaws.{reading-answered}
 use borrow.Author.Needs.{needs}
 use Rattle.conversation.proofs.pod.read.Statement.{statement}
 use Rattle.conversation.proofs.pod.read.Tie as tie
 
 slice-aggregate-read : tie.Need-slice-aggregate-read
-slice-aggregate-read c = simp length-take (omega (arith, c .before .before .if1 .taken))
+slice-aggregate-read c = simp length-take (omega (arith, c .before .before .before .before .pre))
 
 read-requires : tie.Need-read-requires
 read-requires c κs = search needs
@@ -17,11 +18,9 @@ same-length : tie.Need-same-length
 same-length c = search needs
 
 returns : tie.Need-returns
-returns c = search needs
-
-returns-2 : tie.Need-returns-2
-returns-2 c = search needs
+returns c = rw (reading-answered (c .before .before .before .read .ensures)) at (c .before .before .put-reading .ensures)
 
 pub read-spec : {M : Type 1} → statement M
 read-spec =
-    tie.close (tie.spec slice-aggregate-read read-requires put-reading-requires same-length returns returns-2)
+    tie.close
+    (tie.spec slice-aggregate-read read-requires put-reading-requires same-length returns)
