@@ -1,0 +1,114 @@
+-- The answer to `packet X` is the text of the reply that the port gives and of no other; the same of a request in `talk`.
+use Prim.Native.Nat.{ℕ, _+_, _^_, _≤_, _<_}
+use mathlib.Core.Path.{_≡_, refl, ap, sym, _∙_}
+use mathlib.Core.Bool.{true, cond, _&&_}
+use mathlib.Core.List.{List, [], _∷_}
+use native.Mathlib.Omega.{arith}
+use lib.Dec.{eqb, leb}
+use lib.ListN.{length, getD, take, drop}
+use borrow.Author.Tests.{leb-true}
+use Rattle.laws.specs.TestLaws.{both-hold}
+use Rattle.grounds.specs.declared.Ground.the-variants.{WordTooLarge, MemoryTooLong, StateOutOfRange}
+use Rattle.grounds.specs.declared.Verdict.{Verdict}
+use Rattle.grounds.specs.declared.Verdict.the-variants.{Accepted, Refused}
+use Rattle.grounds.specs.Grounds.{check}
+use Rattle.grounds.specs.GroundLaws.{accepted-holds}
+use Rattle.board.specs.declared.Board.{Board}
+use Rattle.board.specs.declared.Place.{Place}
+use Rattle.board.specs.declared.Phase.{Phase}
+use Rattle.board.specs.declared.Phase.the-variants.{Rest, Due, Waiting, Upper}
+use Rattle.board.specs.Ranges.{phaseInRange, boardInRange, placeInRange, inRange}
+use Rattle.board.specs.State.{State}
+use Rattle.step.specs.Step.{replyIn, replyNow}
+use Rattle.port.specs.declared.Answer.{Answer}
+use Rattle.port.specs.declared.Outcome.{Outcome}
+use Rattle.port.specs.Packet.{packetVerdict, answered, PacketMeets}
+use Rattle.requests.specs.declared.Request.{Request}
+use Rattle.exchange.specs.declared.Exchanged.{Exchanged}
+use Rattle.exchange.specs.declared.Exchanged.the-variants.{Ended, Refused as RefusedToExchange}
+use Rattle.exchange.specs.declared.Returned.{Returned}
+use Rattle.exchange.specs.Exchange.{ExchangeMeets}
+use Rattle.board_lines.specs.declared.BoardLine.the-variants.{Packet}
+use Rattle.replies.specs.ReplyText.{packetText}
+use Rattle.readings.specs.declared.Outcome.{Outcome as Closing}
+use Rattle.readings.specs.declared.Outcome.the-variants.{Value, Complete, BusError, Illegal}
+use Rattle.text_laws.specs.ReadBackLaws.{decimalValue}
+use Rattle.text_laws.specs.ToldBackLaws.{PacketHeld, refusalOf, refusal-back, outcomeOf, numberAt, OutcomeHeld, exchange-back}
+use Rattle.text_laws.specs.ToldUnique.{packet-text-unique}
+use Rattle.answers.specs.declared.Bench.{Bench}
+use Rattle.answers.specs.Bench.{portState}
+use Rattle.answers.specs.Said.{said}
+use Rattle.answers.specs.SaidLaws.{packet-outcome}
+use Rattle.asking.specs.Asking.{exchangedText, exchangeSaid}
+use Rattle.asking.specs.AskingLaws.{exchange-outcome}
+
+-- the reply that goes out fits five digits, where the place is in its ranges
+reply-within : (phase : Phase) (next : ℕ) → next ≤ 0x1FFFF → replyIn phase next < 16 ^ 5
+reply-within Rest next h = omega arith
+reply-within (Due c left taken) next h = omega arith
+reply-within (Waiting c left a d) next h = omega arith
+reply-within (Upper low) next h = omega arith
+
+next-within : (b : Board) (p : Place) → inRange b p ≡ true → p .next ≤ 0x1FFFF
+unfolding inRange
+next-within b p e =
+    let place = both-hold (boardInRange b) (placeInRange (b .w) p) e .1 in
+    let rest = both-hold (phaseInRange (b .w) (p .phase) && leb (p .next) 0x1FFFF) (leb (p .pointer) 65536) place .0 in
+    leb-true (p .next) 0x1FFFF (both-hold (phaseInRange (b .w) (p .phase)) (leb (p .next) 0x1FFFF) rest .1)
+
+packet-held : (s : State) (word : ℕ) → PacketHeld (answered (packetVerdict s word) (replyNow (s .place)))
+unfolding packetVerdict replyNow
+packet-held s word = by-verdict (packetVerdict s word) refl
+  where
+    by-verdict : (v : Verdict) → packetVerdict s word ≡ v → PacketHeld (answered v (replyNow (s .place)))
+    by-verdict Accepted e =
+        let others = check (leb (length (s .memory)) 65536) MemoryTooLong ∷ check (leb word 0x1FFFF) WordTooLarge ∷ [] in
+        let held = accepted-holds (inRange (s .board) (s .place)) StateOutOfRange others e .0 in
+        reply-within (s .place .phase) (s .place .next) (next-within (s .board) (s .place) held)
+    by-verdict (Refused ground) e = tt
+
+module _ (line : List ℕ) (word : ℕ) (bench : Bench) (m : List ℕ) {r : Answer} {after : List ℕ} where
+  -- what is said is the text of what the port answered
+  pub packet-said-unique : PacketMeets (portState bench (take (bench .lent) m)) word r after
+      → (said line (Packet word) bench m ≡ packetText (r .outcome))
+      × ((o : Outcome) → PacketHeld o → packetText o ≡ said line (Packet word) bench m → o ≡ r .outcome)
+  unfolding said
+  packet-said-unique meets =
+      let due = packet-outcome meets in
+      let held = packet-held (portState bench (take (bench .lent) m)) word in
+      (ap packetText (sym due), λ o h e. packet-text-unique o _ h held e ∙ sym due)
+
+-- and of a request in talk, whatever the exchange answered
+abbrev pub ExchangeHeld : Exchanged → Type 0
+ExchangeHeld (Ended outcome packets) = OutcomeHeld outcome × (packets < 10 ^ 20)
+ExchangeHeld (RefusedToExchange ground) = Unit
+
+abbrev exchangedOf : List ℕ → Exchanged
+exchangedOf text =
+    cond (eqb (getD text 0 0) 114) (RefusedToExchange (refusalOf text))
+    (Ended (outcomeOf text) (decimalValue (drop (numberAt text + 9) text)))
+
+same-ended : (o q : Closing) (m n : ℕ) → o ≡ q → m ≡ n → Ended o m ≡ Ended q n
+same-ended o q m n e f = cc
+
+exchanged-back : (x : Exchanged) → ExchangeHeld x → exchangedOf (exchangedText x) ≡ x
+exchanged-back (Ended (Value v) packets) held =
+    let back = exchange-back (Value v) packets (held .0) (held .1) in same-ended _ _ _ _ (back .0) (back .1)
+exchanged-back (Ended Complete packets) held =
+    let back = exchange-back Complete packets (held .0) (held .1) in same-ended _ _ _ _ (back .0) (back .1)
+exchanged-back (Ended BusError packets) held =
+    let back = exchange-back BusError packets (held .0) (held .1) in same-ended _ _ _ _ (back .0) (back .1)
+exchanged-back (Ended Illegal packets) held =
+    let back = exchange-back Illegal packets (held .0) (held .1) in same-ended _ _ _ _ (back .0) (back .1)
+exchanged-back (RefusedToExchange ground) held = ap RefusedToExchange (refusal-back ground 0)
+
+pub exchanged-unique : (x y : Exchanged) → ExchangeHeld x → ExchangeHeld y → exchangedText x ≡ exchangedText y → x ≡ y
+exchanged-unique x y h k e = sym (exchanged-back x h) ∙ ap exchangedOf e ∙ exchanged-back y k
+
+module _ (request : Request) (bench : Bench) (m : List ℕ) {r : Returned} {after : List ℕ} where
+  pub exchange-said-unique : ExchangeMeets request (portState bench (take (bench .lent) m)) r after → ExchangeHeld (r .answer)
+      → (exchangeSaid request bench (take (bench .lent) m) ≡ exchangedText (r .answer))
+      × ((x : Exchanged) → ExchangeHeld x → exchangedText x ≡ exchangeSaid request bench (take (bench .lent) m) → x ≡ r .answer)
+  exchange-said-unique meets held =
+      let said = ap exchangedText (sym (exchange-outcome meets)) in
+      (said, λ x h e. exchanged-unique x (r .answer) h held (e ∙ said))
