@@ -1,18 +1,22 @@
-use borrow.Author.Needs.{needs}
 use Prim.Native.Nat.{_≤_, _-_}
+use mathlib.Core.Path.{_≡_, refl}
+use native.Mathlib.Omega.{arith}
 use lib.ListN.{length}
-use mathlib.Core.Path.{_≡_}
-use Rattle.page.proofs.lines.put_codes.Statement.{statement}
-use Rattle.page.proofs.lines.put_codes.Tie as tie
+use Rattle.text.specs.TextLaws.{Remains, all-remains, rest-remains, none-remains}
+use Rattle.page_text.specs.PageText.{codesFrom}
+use Rattle.page_text.specs.PageTextLaws.{codes-on, codes-end}
+use borrow.Author.Needs.{needs}
+use Rattle.page_text.proofs.lines.put_codes.Statement.{statement}
+use Rattle.page_text.proofs.lines.put_codes.Tie as tie
 
 abbrev Inv-loop : tie.InvT-loop
-Inv-loop text₀ from counts firsts lasts at₀ code₀ text at code = (code ≤ 16) × (length text ≡ length text₀)
+Inv-loop text₀ from counts firsts lasts at₀ code₀ text at code = (code ≤ 16) × (length text ≡ length text₀) × Remains text₀ from (codesFrom counts firsts lasts 0 16) text at (codesFrom counts firsts lasts code (16 - code))
 
 abbrev μ-loop : tie.MeasureT-loop
 μ-loop text₀ from counts firsts lasts at₀ code₀ text at code = 16 - code
 
 loop-holds : tie.Need-loop-holds Inv-loop μ-loop
-loop-holds c = search needs
+loop-holds c = (omega arith, refl, all-remains _ _ _)
 
 mul-put-code : tie.Need-mul-put-code Inv-loop μ-loop
 mul-put-code c = search needs
@@ -42,13 +46,18 @@ loop-less : tie.Need-loop-less Inv-loop μ-loop
 loop-less c = search needs
 
 loop-again : tie.Need-loop-again Inv-loop μ-loop
-loop-again c = search needs
+loop-again c =
+    let here = c .before .before .before .before .before .loop in (
+      omega arith,
+      search needs,
+      rest-remains (rw (codes-on _ _ _ (here .code) (c .before .before .before .before .loop-test .taken)) at (here .inv .2)) (c .before .before .put-code .ensures),
+    )
 
 same-length : tie.Need-same-length Inv-loop μ-loop
 same-length c = search needs
 
 returns : tie.Need-returns Inv-loop μ-loop
-returns c = search needs
+returns c = let here = c .before .loop in none-remains (rw (codes-end _ _ _ (here .code) (c .loop-test .left)) at (here .inv .2))
 
 pub put-codes-spec : {M : Type 1} → statement M
 put-codes-spec =

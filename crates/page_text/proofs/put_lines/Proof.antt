@@ -1,11 +1,11 @@
--- The entries of a page are fewer than 2^24, since its cycles are a number of 32 bits.
-use lib.Seq.{length-take-le}
+use Rattle.text.specs.TextLaws.{_then_}
+use lib.Seq.{length-take-le, take-all}
 use mathlib.Core.Path.{sym}
 use native.Mathlib.Omega.{arith}
 use Prim.Native.Nat.{_+_, _/_}
 use borrow.Author.Needs.{needs}
-use Rattle.page.proofs.put_lines.Statement.{statement}
-use Rattle.page.proofs.put_lines.Tie as tie
+use Rattle.page_text.proofs.put_lines.Statement.{statement}
+use Rattle.page_text.proofs.put_lines.Tie as tie
 
 cast-put-head : tie.Need-cast-put-head
 cast-put-head c = search needs
@@ -39,13 +39,26 @@ same-length : tie.Need-same-length
 same-length c = search needs
 
 returns : tie.Need-returns
-returns c = search needs
+returns c =
+    (c .before .before .before .before .before .before .before .before .before .before .before .before .before .before .before .before .before .put-head .ensures)
+    then (c .before .before .before .before .before .before .before .before .before .before .before .before .before .put-rate .ensures)
+    then (c .before .before .before .before .before .before .before .before .before .put-codes .ensures)
+    then (c .before .before .put-index .ensures)
+
+put-index-requires-2 : tie.Need-put-index-requires-2
+put-index-requires-2 c κs = search needs
 
 same-length-2 : tie.Need-same-length-2
 same-length-2 c = search needs
 
 returns-2 : tie.Need-returns-2
-returns-2 c = search needs
+returns-2 c =
+    let a = c .before .before .before .before .before .before .before .before .before .before .before .before .before .before .before .before .before .before .before .before .before .before .args in
+    rw (take-all ((a .page .cycles + 255) / 256) (a .index .now) (search needs))
+    ((c .before .before .before .before .before .before .before .before .before .before .before .before .before .before .before .before .put-head .ensures)
+    then (c .before .before .before .before .before .before .before .before .before .before .before .before .put-rate .ensures)
+    then (c .before .before .before .before .before .before .before .before .put-codes .ensures)
+    then (c .before .before .put-index2 .ensures))
 
 pub put-lines-spec : {M : Type 1} → statement M
 put-lines-spec =
@@ -62,5 +75,6 @@ put-lines-spec =
     put-index-requires
     same-length
     returns
+    put-index-requires-2
     same-length-2
     returns-2)

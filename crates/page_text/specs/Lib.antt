@@ -1,0 +1,2 @@
+pub mod PageText
+pub mod PageTextLaws
