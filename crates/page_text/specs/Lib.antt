@@ -1,2 +1,3 @@
 pub mod PageText
 pub mod PageTextLaws
+pub mod PageRoomLaws
