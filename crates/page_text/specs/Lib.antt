@@ -1,3 +1,4 @@
 pub mod PageText
 pub mod PageTextLaws
 pub mod PageRoomLaws
+pub mod PageTextExamples
