@@ -28,6 +28,31 @@ fn each_answer_is_written_before_the_next_line_is_read() {
     }
 }
 
+#[test]
+fn a_line_is_answered_at_its_cr_and_quit_ends_the_program() {
+    for (program, line, answer) in [
+        ("stand_in", "PACKET 0x0", "reply 0FFFF"),
+        ("pod", "\tbuild  GO", "words 00C00"),
+        ("talk", "nop ", "complete packets 2"),
+    ] {
+        let mut child = Command::new(SECOND).arg(program).stdin(Stdio::piped()).stdout(Stdio::piped()).spawn().unwrap();
+        let mut input = child.stdin.take().unwrap();
+        let mut output = BufReader::new(child.stdout.take().unwrap()).lines();
+        // The LF of CR LF comes only when the answer has been seen, and has none itself.
+        for _ in 0..3 {
+            write!(input, "{line}\r").unwrap();
+            assert_eq!(output.next().unwrap().unwrap(), answer);
+            writeln!(input).unwrap();
+        }
+        // The input stays open.
+        write!(input, "Quit\r").unwrap();
+        assert_eq!(output.next().unwrap().unwrap(), "bye");
+        assert!(output.next().is_none());
+        assert!(child.wait().unwrap().success());
+        drop(input);
+    }
+}
+
 /// A directory of programs: `second` by its names, one of them behind a filter.
 fn programs(name: &str, filtered: &str, filter: &str) -> PathBuf {
     let directory = Path::new(env!("CARGO_TARGET_TMPDIR")).join(name);

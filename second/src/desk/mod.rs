@@ -15,27 +15,37 @@ pub use stand_in::StandIn;
 pub use talk::Talk;
 pub use trace_list::trace_list;
 
-use crate::line::LINE_LIMIT;
+use crate::line::{gets_no_answer, words, LINE_LIMIT};
 use std::io::{self, BufRead, Write};
 
 /// The answer to a line that is none of the language.
 pub const UNCLEAR: &str = "unclear";
 
+/// The answer to `quit`, and to nothing else: the program ends with it.
+pub const BYE: &str = "bye";
+
 /// A program that answers lines.
 pub trait Program {
-    /// The answer to a line parted at its single spaces; none if the line is unclear, and then nothing has changed.
+    /// The answer to `help`: the first words of the program's lines.
+    fn help(&self) -> &'static str;
+
+    /// The answer to a line of these words, in lower case, other than `help` and `quit`; none if the line is unclear, and
+    /// then nothing has changed.
     fn answer_words(&mut self, words: &[&[u8]]) -> Option<String>;
 
     /// The answer to a line without its line end; none for an empty line and a comment.
     fn answer(&mut self, line: &[u8]) -> Option<String> {
-        if line.is_empty() || line[0] == b'#' {
+        if gets_no_answer(line) {
             return None;
         }
         let answer = if line.len() > LINE_LIMIT {
             None
         } else {
-            let words: Vec<&[u8]> = line.split(|&byte| byte == b' ').collect();
-            self.answer_words(&words)
+            match &words(&line.to_ascii_lowercase())[..] {
+                [b"help"] => Some(self.help().to_string()),
+                [b"quit"] => Some(BYE.to_string()),
+                words => self.answer_words(words),
+            }
         };
         Some(answer.unwrap_or_else(|| UNCLEAR.to_string()))
     }
@@ -54,7 +64,7 @@ pub fn line_program(name: &str) -> Option<Box<dyn Program>> {
     })
 }
 
-/// Answers every line of `input`, each answer written before the next line is read.
+/// Answers every line of `input` up to `quit` or to its end, each answer written before the next line is read.
 pub fn converse(program: &mut dyn Program, input: &mut impl BufRead, output: &mut impl Write) -> io::Result<()> {
     let mut line = Vec::new();
     while crate::line::read_line(input, &mut line)? {
@@ -62,6 +72,9 @@ pub fn converse(program: &mut dyn Program, input: &mut impl BufRead, output: &mu
             output.write_all(answer.as_bytes())?;
             output.write_all(b"\n")?;
             output.flush()?;
+            if answer == BYE {
+                break;
+            }
         }
     }
     Ok(())

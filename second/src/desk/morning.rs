@@ -116,6 +116,10 @@ struct MorningDesk {
 }
 
 impl Program for MorningDesk {
+    fn help(&self) -> &'static str {
+        self.talk.help()
+    }
+
     fn answer_words(&mut self, words: &[&[u8]]) -> Option<String> {
         match words {
             [b"packet", x] => Some(send_packet(&mut self.talk.bench, number(x)?)),

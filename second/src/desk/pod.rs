@@ -11,6 +11,10 @@ use std::fmt::Write;
 pub struct Pod;
 
 impl Program for Pod {
+    fn help(&self) -> &'static str {
+        "help build read help quit"
+    }
+
     fn answer_words(&mut self, words: &[&[u8]]) -> Option<String> {
         match words {
             [b"build", request @ ..] => build(&parse_request(request)?),

@@ -16,6 +16,10 @@ impl StandIn {
 }
 
 impl Program for StandIn {
+    fn help(&self) -> &'static str {
+        "help make memory bytes packet event breakpoint peek state help quit"
+    }
+
     fn answer_words(&mut self, words: &[&[u8]]) -> Option<String> {
         match words {
             [b"packet", x] => Some(send_packet(&mut self.bench, number(x)?)),

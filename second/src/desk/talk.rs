@@ -17,6 +17,12 @@ impl Talk {
 }
 
 impl Program for Talk {
+    fn help(&self) -> &'static str {
+        "help make memory bytes event breakpoint peek state \
+         rdreg wdreg read.b read.w read.l write.b write.w write.l dump.b dump.w dump.l fill.b fill.w fill.l \
+         go nop sync_pc rcreg wcreg rdmreg wdmreg help quit"
+    }
+
     fn answer_words(&mut self, words: &[&[u8]]) -> Option<String> {
         let Some(request) = parse_request(words) else {
             return self.bench.answer_words(words);

@@ -100,7 +100,7 @@ fn lines(program: &str) -> Vec<Vec<u8>> {
     lines.push([b"#".as_slice(), &[b'-'; 2 * LINE_LIMIT]].concat());
     comment(&mut lines, "Unclear: spaces, control bytes, bytes beyond ASCII, other words");
     for text in
-        [" ", "  ", " #", "\r", "\t", "\0", "\x0B", "\x7F", "0", "-", ":", "help", "unclear", "quit", "state state"]
+        [" ", "  ", " #", "\r", "\t", "\0", "\x0B", "\x7F", "0", "-", ":", "help", "unclear", "quit 0", "state state"]
     {
         lines.push(text.as_bytes().to_vec());
     }
