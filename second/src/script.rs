@@ -2,6 +2,7 @@
 
 use crate::board::{Board, Phase};
 use crate::desk::{Bench, Pod, Program, StandIn, Talk};
+use crate::line::is_line_end;
 
 /// A line program that may have a bench to look at.
 pub trait Listener: Program + Default {
@@ -38,9 +39,12 @@ impl<P: Listener> Writer<P> {
         Writer::default()
     }
 
+    /// A line without its line end. A CR in it ends it and begins another.
     pub fn say(&mut self, line: impl Into<Vec<u8>>) {
         let line = line.into();
-        self.listener.answer(&line);
+        for line in line.split(|&byte| is_line_end(byte)) {
+            self.listener.answer(line);
+        }
         self.lines.push(line);
     }
 

@@ -6,28 +6,36 @@ use super::Rng;
 use crate::desk::Bench;
 use crate::line::LINE_LIMIT;
 
-/// A comment, an empty line, or `line` spoilt in one of many ways. A spoilt line may still be clear.
+/// What is nearly `help` or `quit`, and other lines that are none. `quit` itself would end the script.
+const OTHER_LINES: [&[u8]; 11] =
+    [b"help 0", b"help me", b"quit 0", b"QUIT now", b"quits", b"#quit", b"bye", b"unclear", b"\0", b"\x0B", b"\xFF"];
+
+/// Numbers about the edges of what is one.
+const OTHER_NUMBERS: [&[u8]; 18] = [
+    b"100000000", b"FFFFFFFF", b"100", b"", b"1FFFF", b"20000", b"0x1", b"0X1f", b"0x", b"0X", b"0x0x1", b"00x1",
+    b"x1", b"0x-1", b"0xG", b"0x100000000", b"0x00000000000000001", b"0XFFFFFFFF",
+];
+
+/// A comment, an empty line, or `line` spoilt in one of many ways. A spoilt line may still be clear, and one with a CR in it
+/// is two.
 pub fn noise(rng: &mut Rng, line: &[u8]) -> Vec<u8> {
-    match rng.below(24) {
+    match rng.below(29) {
         0 => Vec::new(),
         1 => b"# a comment".to_vec(),
-        2 => [b"#".as_slice(), line].concat(),
-        3 => b" ".to_vec(),
-        4 => rng.pick::<&[u8]>(&[b"\r", b"\t", b"\0", b"  ", b"unclear", b"help", b"\xFF"]).to_vec(),
-        5 => [b" ".as_slice(), line].concat(),
-        6 => [line, b" "].concat(),
+        2 => [rng.pick::<&[u8]>(&[b"#", b" #", b"\t#", b" \t # "]), line].concat(),
+        3 => rng.pick::<&[u8]>(&[b" ", b"\t", b" \t  ", b"\r", b"\r \r"]).to_vec(),
+        4 => rng.pick(&OTHER_LINES).to_vec(),
+        5 => [rng.pick::<&[u8]>(&[b" ", b"\t", b"\x0B", b"\0", b"\xC2\xA0"]), line].concat(),
+        6 => [line, rng.pick::<&[u8]>(&[b" ", b"\t", b"\x0C", b"\0", b" #", b" # x", b"#"])].concat(),
         7 => [line, b"\r"].concat(),
         8 => [line, b" 0"].concat(),
-        9 => replace_first_space(line, b"  "),
-        10 => replace_first_space(line, b"\t"),
+        9 => replace_first_space(line, rng.pick::<&[u8]>(&[b"  ", b"\t", b" \t "])),
+        10 => replace_first_space(line, rng.pick::<&[u8]>(&[b"\x0B", b"\xA0", b",", b"\r", b"\0"])),
         11 => replace_first_space(line, b""),
         12 => line.to_ascii_uppercase(),
         13 => drop_last_word(line),
         14 => [line, rng.pick::<&[u8]>(&[b"00000000", b"FFFFFFFF", b"F", b"G", b"-", b"\xC3\xA9"])].concat(),
-        15 => replace_last_word(
-            line,
-            rng.pick::<&[u8]>(&[b"100000000", b"FFFFFFFF", b"100", b"0x1", b"", b"1FFFF", b"20000"]),
-        ),
+        15 => replace_last_word(line, rng.pick(&OTHER_NUMBERS)),
         16 => stretch_to(line, LINE_LIMIT + rng.below(3) as usize - 1),
         17 => stretch_to(b"packet 0", LINE_LIMIT + rng.below(2) as usize),
         18 => [b"#".as_slice(), &vec![b'-'; LINE_LIMIT + rng.below(3) as usize - 1]].concat(),
@@ -35,6 +43,11 @@ pub fn noise(rng: &mut Rng, line: &[u8]) -> Vec<u8> {
         20 => spoil_byte(rng, line),
         21 => remove_byte(rng, line),
         22 => (0..rng.between(1, 20)).map(|_| rng.word() as u8).filter(|&byte| byte != b'\n').collect(),
+        23 => insert(rng, line, b" \t"),
+        24 => insert(rng, line, b"0xX#:."),
+        25 => widen(rng, line),
+        26 => after_blanks(rng, line),
+        27 => rng.pick::<&[u8]>(&[b"help", b"HELP", b"\thelp "]).to_vec(),
         _ => {
             let mut line = stretch_to(line, line.len() + 1 + rng.below(20) as usize);
             line.make_ascii_lowercase();
@@ -67,6 +80,31 @@ fn stretch_to(line: &[u8], length: usize) -> Vec<u8> {
     let zeros = vec![b'0'; length.saturating_sub(line.len())];
     let (head, tail) = line.split_at(last_word(line));
     [head, &zeros, tail].concat()
+}
+
+/// Blanks before the line, between two words or behind it until it is as long as a line may be, or just not.
+fn widen(rng: &mut Rng, line: &[u8]) -> Vec<u8> {
+    let length = LINE_LIMIT + rng.below(3) as usize - 1;
+    let blanks = vec![rng.pick(b" \t"); length.saturating_sub(line.len())];
+    let place = rng.pick(&[0, last_word(line), line.len()]);
+    let (head, tail) = line.split_at(place);
+    [head, &blanks, tail].concat()
+}
+
+/// Something behind more blanks than a line may have, or just not.
+fn after_blanks(rng: &mut Rng, line: &[u8]) -> Vec<u8> {
+    let more = rng.pick(&[0, 1, 2, 5000]);
+    let blanks = vec![rng.pick(b" \t"); LINE_LIMIT - 1 + more];
+    let tail = rng.pick(&[b"".as_slice(), b"#", b"# x", b"x", b"quit", line]);
+    // `quit` is too long even behind the fewest.
+    [&blanks, tail].concat()
+}
+
+/// One of these bytes somewhere in the line.
+fn insert(rng: &mut Rng, line: &[u8], bytes: &[u8]) -> Vec<u8> {
+    let mut line = line.to_vec();
+    line.insert(rng.below(line.len() as u32 + 1) as usize, rng.pick(bytes));
+    line
 }
 
 fn spoil_byte(rng: &mut Rng, line: &[u8]) -> Vec<u8> {

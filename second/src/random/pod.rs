@@ -16,7 +16,7 @@ fn pod_line(rng: &mut Rng) -> Vec<u8> {
     } else {
         format!("read {request} :{}", replies(rng, &request))
     };
-    if rng.once_in(16) {
+    if rng.once_in(8) {
         noise(rng, line.as_bytes())
     } else {
         line.into_bytes()

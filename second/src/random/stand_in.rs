@@ -42,7 +42,7 @@ fn step(rng: &mut Rng, writer: &mut Writer<StandIn>) {
     if writer.memory_length() > 65_536 && rng.once_in(3) {
         writer.say(format!("memory {:X}", rng.below(65_537)));
     }
-    match rng.below(99) {
+    match rng.below(104) {
         0..=44 => send_command(rng, writer),
         45..=49 => {
             for words in breakpoint_setup(rng) {
@@ -54,13 +54,13 @@ fn step(rng: &mut Rng, writer: &mut Writer<StandIn>) {
             let line = bench_line(rng, writer.bench());
             writer.say(line);
         }
-        90..=93 => {
+        90..=98 => {
             let line =
                 if rng.percent(50) { bench_line(rng, writer.bench()) } else { format!("packet {:X}", legal_word(rng)) };
             writer.say(noise(rng, line.as_bytes()));
         }
-        94..=96 => writer.packet(rng.below(0x2_0000)),
-        97 => {
+        99..=101 => writer.packet(rng.below(0x2_0000)),
+        102 => {
             let wide = rng.pick(&[0x2_0000, 0x2_0001, 0x3_0000, 0xFFFF_FFFF, 0x8000_0000]);
             writer.packet(wide);
         }

@@ -30,7 +30,7 @@ fn step(rng: &mut Rng, writer: &mut Writer<Talk>) {
         writer.say(format!("memory {:X}", rng.below(65_537)));
     }
     let length = writer.memory_length();
-    match rng.below(99) {
+    match rng.below(104) {
         0..=39 => {
             // Ground 13 comes before ground 3.
             let wild = if length > 65_536 { 2 } else { 24 };
@@ -61,7 +61,7 @@ fn step(rng: &mut Rng, writer: &mut Writer<Talk>) {
             let line = bench_line(rng, writer.bench());
             writer.say(line);
         }
-        94..=97 => {
+        94..=102 => {
             let line = request(rng, length, 24);
             writer.say(noise(rng, line.as_bytes()));
         }
