@@ -25,6 +25,18 @@ pub fn words(line: &[u8]) -> Vec<&[u8]> {
     line.split(|&byte| is_blank(byte)).filter(|word| !word.is_empty()).collect()
 }
 
+/// The lines of a whole input without their ends, as an editor counts them: CR LF is one end.
+pub fn lines(input: &[u8]) -> Vec<&[u8]> {
+    let mut lines = Vec::new();
+    let mut rest = input;
+    while let Some(end) = rest.iter().position(|&byte| is_line_end(byte)) {
+        lines.push(&rest[..end]);
+        rest = rest[end..].strip_prefix(b"\r\n").unwrap_or(&rest[end + 1..]);
+    }
+    lines.push(rest);
+    lines
+}
+
 /// Reads the next line into `line`, without its line end; false at the end of the input. Of a line that is too long only so
 /// much is kept that it is still too long, and still a comment or empty if it is.
 pub fn read_line(input: &mut impl BufRead, line: &mut Vec<u8>) -> io::Result<bool> {

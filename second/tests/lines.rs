@@ -3,6 +3,7 @@
 mod common;
 use common::Desk;
 use second::desk::{converse, line_program, output_of, LINE_PROGRAMS};
+use second::line::lines;
 use std::io::BufReader;
 
 fn unclear(desk: &mut Desk, line: &[u8]) {
@@ -269,6 +270,13 @@ fn a_line_ends_with_lf_or_with_cr() {
     }
     // A CR parts no words.
     assert_eq!(output_of("stand_in", b"packet\r0\n").unwrap(), b"unclear\nunclear\n");
+}
+
+#[test]
+fn lines_are_counted_as_an_editor_counts_them() {
+    let counted: [&[u8]; 7] = [b"a", b"b", b"", b"c", b"", b"", b"d "];
+    assert_eq!(lines(b"a\r\nb\n\rc\r\r\n\nd "), counted);
+    assert_eq!(lines(b"a\r\n"), [b"a".as_slice(), b""]);
 }
 
 #[test]

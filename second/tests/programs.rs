@@ -55,12 +55,17 @@ fn a_line_is_answered_at_its_cr_and_quit_ends_the_program() {
 
 /// A directory of programs: `second` by its names, one of them behind a filter.
 fn programs(name: &str, filtered: &str, filter: &str) -> PathBuf {
+    programs_between(name, filtered, "cat", filter)
+}
+
+/// The same with a filter before it too.
+fn programs_between(name: &str, filtered: &str, before: &str, behind: &str) -> PathBuf {
     let directory = Path::new(env!("CARGO_TARGET_TMPDIR")).join(name);
     fs::create_dir_all(&directory).unwrap();
     for program in ["stand_in", "pod", "talk", "trace_list", "page"] {
-        let filter = if program == filtered { filter } else { "cat" };
+        let (before, behind) = if program == filtered { (before, behind) } else { ("cat", "cat") };
         let path = directory.join(program);
-        fs::write(&path, format!("#!/bin/sh\n'{SECOND}' {program} \"$@\" | {filter}\n")).unwrap();
+        fs::write(&path, format!("#!/bin/sh\n{before} | '{SECOND}' {program} \"$@\" | {behind}\n")).unwrap();
         fs::set_permissions(&path, fs::Permissions::from_mode(0o755)).unwrap();
     }
     directory
@@ -100,6 +105,26 @@ fn a_difference_is_shown_with_its_cause() {
     assert!(!good && text.contains("the shortest script found:\n    packet "), "{text}");
     let (good, text) = second(&["soak", bin, "20"]);
     assert!(!good && text.contains("DIFFERS at seed "), "{text}");
+}
+
+#[test]
+fn a_difference_in_typing_is_shown_as_it_was_typed() {
+    for (name, before, vector, shown) in [
+        ("no_cr", "tr -d '\\r'", "line_ends_cr", "\\r"),
+        ("no_tabs", "tr '\\t' x", "blanks", "\\t"),
+        ("no_upper_case", "sed s/^PACKET/x/", "case", "    PACKET"),
+        ("no_prefix", "sed 's/ 0x/ +/'", "prefix", " 0x"),
+        ("no_quit", "sed 's/[qQ][uU][iI][tT]/quits/'", "help_quit", "    quit\n"),
+    ] {
+        let directory = programs_between(name, "stand_in", before, "cat");
+        let bin = directory.to_str().unwrap();
+        let (good, text) = second(&["compare", bin, &vectors()]);
+        assert!(!good && text.contains(&format!("DIFFERS stand_in/{vector}\n")), "{name}: {text}");
+        let (good, text) = second(&["random", bin, "1", "60"]);
+        let (_, script) = text.split_once("the shortest script found:\n").expect(&text);
+        assert!(!good && script.contains(shown), "{name}: {text}");
+        assert!(script.lines().count() < 10, "{name}: {text}");
+    }
 }
 
 #[test]

@@ -3,7 +3,7 @@
 use super::run::{run, Run};
 use super::Subject;
 use crate::desk::{output_with, LINE_PROGRAMS};
-use crate::script::to_bytes;
+use crate::line::{gets_no_answer, lines};
 use std::fmt;
 
 /// The first difference between the expected output and that of a program under test.
@@ -36,9 +36,9 @@ pub fn try_input(subject: Subject, input: &[u8]) -> Option<Difference> {
     try_expected(subject, input, &expected)
 }
 
-/// As `try_input`, for the lines of a script.
-pub fn try_lines(subject: Subject, lines: &[Vec<u8>], last_ended: bool) -> Option<Difference> {
-    try_input(subject, &to_bytes(lines, last_ended))
+/// As `try_input`, for the lines of a script, each with its end.
+pub fn try_lines(subject: Subject, lines: &[Vec<u8>]) -> Option<Difference> {
+    try_input(subject, &lines.concat())
 }
 
 fn first_difference(name: &str, input: &[u8], expected: &[u8], run: Run) -> Option<Difference> {
@@ -63,14 +63,10 @@ fn first_difference(name: &str, input: &[u8], expected: &[u8], run: Run) -> Opti
     }
 }
 
-/// The input line that gets this answer: empty lines and comments get none.
+/// The input line that gets this answer: empty lines and comments get none. What is answered beyond `quit` has a line too.
 fn cause(input: &[u8], answer: usize) -> Option<(usize, Vec<u8>)> {
-    input
-        .split(|&byte| byte == b'\n')
-        .enumerate()
-        .filter(|(_, line)| !line.is_empty() && line[0] != b'#')
-        .nth(answer - 1)
-        .map(|(place, line)| (place + 1, line.to_vec()))
+    let answered = lines(input).into_iter().enumerate().filter(|(_, line)| !gets_no_answer(line)).nth(answer - 1);
+    answered.map(|(place, line)| (place + 1, line.to_vec()))
 }
 
 impl fmt::Display for Difference {
@@ -93,13 +89,16 @@ impl fmt::Display for Difference {
     }
 }
 
-/// A line in print, cut if it is very long.
+/// A line in print, cut if it is very long. Only a line end that is LF alone is not shown.
 pub fn shown(line: Option<&[u8]>) -> String {
     const SHOWN: usize = 1000;
     match line {
         None => "(nothing)".to_string(),
         Some(line) => {
-            let body = line.strip_suffix(b"\n").unwrap_or(line);
+            let body = match line {
+                [body @ .., b'\n'] if body.last() != Some(&b'\r') => body,
+                line => line,
+            };
             let text = body[..body.len().min(SHOWN)].escape_ascii().to_string();
             if body.len() > SHOWN {
                 format!("{text}.. ({} bytes)", body.len())

@@ -6,7 +6,7 @@ use super::{Found, Subject};
 use crate::cycles::show_cycles;
 use crate::desk::LINE_PROGRAMS;
 use crate::page::INDEX_STEP;
-use crate::random::{marked_trace, random_arguments, random_script, random_trace, Rng};
+use crate::random::{marked_trace, plain, random_arguments, random_script, random_trace, Rng};
 use std::path::Path;
 use std::time::Duration;
 
@@ -57,10 +57,9 @@ pub fn round(found: &Found, seed: u64, tally: &mut Tally) -> Result<(), String> 
 
 fn try_script(subject: Subject, rng: &mut Rng, tally: &mut Tally) -> Result<(), String> {
     let lines = random_script(subject.name, rng, script_length(subject.name));
-    let last_ended = rng.percent(75);
     tally.lines += lines.len();
-    match try_lines(subject, &lines, last_ended) {
-        Some(difference) => Err(script_report(subject, lines, last_ended, &difference)),
+    match try_lines(subject, &lines) {
+        Some(difference) => Err(script_report(subject, lines, &difference)),
         None => Ok(()),
     }
 }
@@ -78,18 +77,21 @@ fn try_trace(found: &Found, trace: &[u8], from: &[String]) -> Result<(), String>
     Ok(())
 }
 
-fn script_report(subject: Subject, mut lines: Vec<Vec<u8>>, last_ended: bool, difference: &Difference) -> String {
+fn script_report(subject: Subject, mut lines: Vec<Vec<u8>>, difference: &Difference) -> String {
     // Nothing after the line that shows the difference is needed to show it.
     if let Difference::Line { cause: Some((number, _)), .. } = difference {
         let head = lines[..(*number).min(lines.len())].to_vec();
-        if try_lines(subject, &head, true).is_some() {
+        if try_lines(subject, &head).is_some() {
             lines = head;
         }
     }
-    let fails = |lines: &[Vec<u8>]| try_lines(subject, lines, last_ended).is_some();
+    let fails = |lines: &[Vec<u8>]| try_lines(subject, lines).is_some();
     let shortest = shrink(&lines, SHRINK_TIME, fails);
-    let difference = try_lines(subject, &shortest, last_ended)
-        .map_or_else(|| difference.to_string(), |difference| difference.to_string());
+    // What need not be typed as it is, is shown as it is mostly typed.
+    let plain: Vec<Vec<u8>> = shortest.iter().map(|line| plain(line)).collect();
+    let shortest = blank(&shortest, &plain, SHRINK_TIME, fails);
+    let difference =
+        try_lines(subject, &shortest).map_or_else(|| difference.to_string(), |difference| difference.to_string());
     let script: String = shortest.iter().map(|line| format!("    {}\n", shown(Some(line)))).collect();
     format!("{} differs; the shortest script found:\n{script}{difference}", subject.name)
 }
@@ -118,7 +120,7 @@ fn earlier_start<'a>(subject: Subject<'a>, trace: &'a [u8]) -> (Subject<'a>, &'a
 /// Makes those cycles idle that need not be what they are, then leaves out blocks between two entries of the index, then
 /// cycles.
 fn shortest_trace(trace: &[u8], fails: impl Fn(&[u8]) -> bool) -> Vec<u8> {
-    let idle = blank(trace, &0, SHRINK_TIME, &fails);
+    let idle = blank(trace, &vec![0; trace.len()], SHRINK_TIME, &fails);
     let blocks: Vec<Vec<u8>> = idle.chunks(INDEX_STEP).map(<[u8]>::to_vec).collect();
     let blocks = shrink(&blocks, SHRINK_TIME, |blocks| fails(&blocks.concat()));
     shrink(&blocks.concat(), SHRINK_TIME, &fails)

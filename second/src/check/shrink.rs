@@ -32,10 +32,11 @@ pub fn shrink<T: Clone>(items: &[T], time: Duration, mut fails: impl FnMut(&[T])
     kept
 }
 
-/// Puts `plain` in the place of parts of `items` as long as the whole still fails, for so much time at most.
+/// Puts parts of `plain`, which is as long, in the place of those of `items` as long as the whole still fails, for so much
+/// time at most.
 pub fn blank<T: Clone + PartialEq>(
     items: &[T],
-    plain: &T,
+    plain: &[T],
     time: Duration,
     mut fails: impl FnMut(&[T]) -> bool,
 ) -> Vec<T> {
@@ -49,7 +50,7 @@ pub fn blank<T: Clone + PartialEq>(
             }
             let to = (from + part).min(kept.len());
             let mut blanked = kept.clone();
-            blanked[from..to].fill(plain.clone());
+            blanked[from..to].clone_from_slice(&plain[from..to]);
             if blanked != kept && fails(&blanked) {
                 kept = blanked;
             }

@@ -10,6 +10,7 @@ mod rng;
 mod stand_in;
 mod talk;
 mod trace;
+mod typing;
 
 pub use from::random_arguments;
 pub use marks::marked_trace;
@@ -18,13 +19,20 @@ pub use rng::Rng;
 pub use stand_in::stand_in_script;
 pub use talk::talk_script;
 pub use trace::random_trace;
+pub use typing::{plain, typed_script};
 
-/// The lines of a random script for a line program.
+/// The lines of a random script for a line program, each with its end; the last may lack it.
 pub fn random_script(program: &str, rng: &mut Rng, length: usize) -> Vec<Vec<u8>> {
-    match program {
+    let mut lines = match program {
         "stand_in" => stand_in_script(rng, length),
         "pod" => pod_script(rng, length),
         "talk" => talk_script(rng, length),
         _ => panic!("{program} is no line program"),
+    };
+    // What follows `quit` is not read, so little does.
+    if rng.once_in(6) {
+        let place = lines.len().saturating_sub(rng.between(1, 10) as usize);
+        lines.splice(place..place + 1, [rng.pick::<&[u8]>(&[b"quit", b"QUIT", b"\tQuit "]).to_vec()]);
     }
+    typed_script(rng, lines)
 }
