@@ -13,6 +13,7 @@ mod pages;
 mod pod;
 mod sequences;
 mod traces;
+mod typed;
 mod unclear;
 
 use std::fs;
@@ -47,6 +48,7 @@ pub fn all() -> Vec<Stored> {
     stored.extend(events::all());
     stored.extend(firing::all());
     stored.extend(unclear::all());
+    stored.extend(typed::all());
     stored.extend(pod::all());
     stored.extend(conversations::all());
     stored.extend(traces::all());

@@ -1,5 +1,6 @@
 //! Every request with its words, and with good and damaged replies.
 
+use super::unclear::REQUESTS;
 use super::Stored;
 use crate::random::{pod_script, Rng};
 
@@ -59,12 +60,6 @@ fn builds() -> Vec<Vec<u8>> {
     }
     lines
 }
-
-const REQUESTS: [&str; 21] = [
-    "rdreg 1", "wdreg 1 2", "read.b 0", "read.w 0", "read.l 0", "write.b 0 1", "write.w 0 1", "write.l 0 1", "dump.b",
-    "dump.w", "dump.l", "fill.b 1", "fill.w 1", "fill.l 1", "go", "nop", "sync_pc", "rcreg 801", "wcreg 801 1",
-    "rdmreg 0", "wdmreg 8 1",
-];
 
 const OUT_OF_RANGE: [&str; 12] = [
     "rdreg 10", "wdreg 10 2", "write.b 0 100", "write.w 0 10000", "fill.b 100", "fill.w 10000", "rcreg 1000",

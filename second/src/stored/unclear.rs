@@ -12,25 +12,27 @@ pub fn all() -> Vec<Stored> {
         let last: &[u8] = if program == "pod" { b"build go" } else { b"state" };
         let head = b"# The last line has no line end.\n".to_vec();
         stored.push(Stored::new(program, "no_last_line_end", [head, last.to_vec()].concat()));
-        stored.push(Stored::new(program, "last_line_unclear", [last, b"\n", last, b"\r"].concat()));
-        stored.push(Stored::new(program, "only_line_ends", b"\n\n\n".to_vec()));
+        stored.push(Stored::new(program, "only_line_ends", b"\n\n\n\r\r\r\n\r\n\n\r".to_vec()));
+        stored.push(Stored::new(program, "only_blanks", b" \n\t\r  \t \r\n\t\t\n ".to_vec()));
         stored.push(Stored::new(program, "empty", Vec::new()));
     }
     stored
 }
 
+/// Every request.
+pub const REQUESTS: [&str; 21] = [
+    "rdreg 1", "wdreg 1 2", "read.b 0", "read.w 0", "read.l 0", "write.b 0 1", "write.w 0 1", "write.l 0 1", "dump.b",
+    "dump.w", "dump.l", "fill.b 1", "fill.w 1", "fill.l 1", "go", "nop", "sync_pc", "rcreg 801", "wcreg 801 1",
+    "rdmreg 0", "wdmreg 8 1",
+];
+
 /// Clear lines of each program, to be spoilt.
-fn clear(program: &str) -> Vec<&'static str> {
+pub fn clear(program: &str) -> Vec<&'static str> {
     let bench =
         ["make 0", "memory 20", "bytes 0 0A1B", "event 1000", "event 1000 0 5 0", "breakpoint", "peek 0 2", "state"];
-    let requests = [
-        "rdreg 1", "wdreg 1 2", "read.b 0", "read.w 0", "read.l 0", "write.b 0 1", "write.w 0 1", "write.l 0 1",
-        "dump.b", "dump.w", "dump.l", "fill.b 1", "fill.w 1", "fill.l 1", "go", "nop", "sync_pc", "rcreg 801",
-        "wcreg 801 1", "rdmreg 0", "wdmreg 8 1",
-    ];
     match program {
         "stand_in" => [&bench[..], &["packet 0"]].concat(),
-        "talk" => [&bench[..], &requests[..]].concat(),
+        "talk" => [&bench[..], &REQUESTS[..]].concat(),
         _ => vec![
             "build rdreg 1", "build write.l 0 1", "build go", "build dump.b", "read go : FFFF", "read read.l 0 : 1 2",
             "read rdmreg 0 :", "read wcreg 801 1 : 10000 10001",
@@ -98,7 +100,7 @@ fn lines(program: &str) -> Vec<Vec<u8>> {
     lines.push([b"#".as_slice(), &[0xFF, 0xFE, 0x80]].concat());
     lines.push([b"#".as_slice(), &[b'-'; LINE_LIMIT]].concat());
     lines.push([b"#".as_slice(), &[b'-'; 2 * LINE_LIMIT]].concat());
-    comment(&mut lines, "Unclear: spaces, control bytes, bytes beyond ASCII, other words");
+    comment(&mut lines, "Spaces, control bytes, bytes beyond ASCII, other words");
     for text in
         [" ", "  ", " #", "\r", "\t", "\0", "\x0B", "\x7F", "0", "-", ":", "help", "unclear", "quit 0", "state state"]
     {
