@@ -84,6 +84,10 @@ fn ways(line: &str) -> Vec<String> {
             format!("{line}{blank}#"),
         ]);
     }
+    // Beyond ASCII case counts: a Kelvin sign, a long s, a dotless i, a full-width E.
+    for (letter, other) in [('k', "\u{212a}"), ('s', "\u{17f}"), ('i', "\u{131}"), ('e', "\u{ff25}")] {
+        ways.push(line.replace(letter, other));
+    }
     let words: Vec<&str> = line.split(' ').collect();
     let with = |place: usize, word: &str| {
         let mut words = words.clone();
