@@ -10,7 +10,7 @@ use Rattle.numbers.specs.declared.Numeral.{Numeral}
 use Rattle.numbers.specs.declared.Numeral.the-variants.{Value, NoNumber}
 use Rattle.numbers.specs.declared.Numbers.{Numbers}
 use Rattle.numbers.specs.declared.Numbers.the-variants.{Zero, One, Two, Three, Four, NotNumbers}
-use Rattle.words.specs.LineWords.{ascii, kindOf, words, same}
+use Rattle.words.specs.LineWords.{ascii, kindOf, words, lastEnd, same}
 use Rattle.numbers.specs.Numbers.{allDigits, numeral, numbers}
 use Rattle.board_lines.specs.declared.BoardLine.{BoardLine}
 use Rattle.board_lines.specs.declared.BoardLine.the-variants.{Nothing, Make, Memory, Bytes, Packet, Event, EventWithAccess}
@@ -62,25 +62,25 @@ boardForm name NotNumbers = Unclear
 abbrev pub isHex : List ℕ → Bool
 isHex hex = leb 2 (length hex) && (eqb (length hex % 2) 0 && allDigits hex)
 
--- the digits end the line
+-- the digits are the last word; "In HEX of `bytes` there is no `0x`": its `x` is no digit
 unfoldable pub hexLine : ℕ → Numeral → List ℕ → BoardLine
-hexLine total (Value a) hex = cond (isHex hex) (Bytes a (total - length hex) (length hex / 2)) Unclear
-hexLine total NoNumber hex = Unclear
+hexLine close (Value a) hex = cond (isHex hex) (Bytes a (close - length hex) (length hex / 2)) Unclear
+hexLine close NoNumber hex = Unclear
 
--- `bytes A HEX`, in a line of so many bytes
+-- `bytes A HEX`, in a line whose last word ends there
 abbrev pub bytesLine : ℕ → List (List ℕ) → BoardLine
-bytesLine total [] = Unclear
-bytesLine total (a ∷ []) = Unclear
-bytesLine total (a ∷ hex ∷ []) = hexLine total (numeral a) hex
-bytesLine total (a ∷ hex ∷ b ∷ more) = Unclear
+bytesLine close [] = Unclear
+bytesLine close (a ∷ []) = Unclear
+bytesLine close (a ∷ hex ∷ []) = hexLine close (numeral a) hex
+bytesLine close (a ∷ hex ∷ b ∷ more) = Unclear
 
 unfoldable pub boardWords : ℕ → List (List ℕ) → BoardLine
-boardWords total [] = Unclear
-boardWords total (name ∷ rest) = cond (same name (ascii "bytes")) (bytesLine total rest) (boardForm name (numbers rest))
+boardWords close [] = Unclear
+boardWords close (name ∷ rest) = cond (same name (ascii "bytes")) (bytesLine close rest) (boardForm name (numbers rest))
 
 abbrev pub boardAt : LineKind → List ℕ → BoardLine
 boardAt Silent line = Nothing
-boardAt Clear line = boardWords (length line) (words line)
+boardAt Clear line = boardWords (lastEnd line) (words line)
 boardAt TooLong line = Unclear
 
 unfoldable pub boardLine : List ℕ → BoardLine

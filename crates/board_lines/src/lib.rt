@@ -1,7 +1,6 @@
 // The desk's language: the lines of `stand_in`.
 ghost use mathlib.Core.Path.{_≡_};
-ghost use lib.ListN.{length};
-ghost use Rattle.words.specs.LineWords.{words, wordsAfter};
+ghost use Rattle.words.specs.LineWords.{words, wordsFrom, lastEnd};
 ghost use Rattle.board_lines.specs.BoardLines.{memoryLine, peekLine, eventLine, boardOfNone, boardOfOne, boardOfTwo, boardOfFour};
 ghost use Rattle.board_lines.specs.BoardLines.{boardForm, isHex, hexLine, bytesLine, boardWords, boardLine};
 use numbers::Numbers;
@@ -131,9 +130,9 @@ fn is_hex(digits: &[u8]) -> bool
     numbers::are_digits(digits)
 }
 
-// The digits end the line, which has `total` bytes.
-fn hex_line(total: usize, address: Numeral, digits: &[u8]) -> BoardLine
-    ensures { λ r. ⌜ r ≡ hexLine total address (now (digits .entry)) ⌝ }
+// The digits are the last word of the line, which ends at `close`.
+fn hex_line(close: usize, address: Numeral, digits: &[u8]) -> BoardLine
+    ensures { λ r. ⌜ r ≡ hexLine close address (now (digits .entry)) ⌝ }
 {
     match address {
         Numeral::Value(a) => {
@@ -141,8 +140,8 @@ fn hex_line(total: usize, address: Numeral, digits: &[u8]) -> BoardLine
                 return BoardLine::Unclear;
             }
             let count = digits.len();
-            if count <= total {
-                return BoardLine::Bytes(a, total - count, count / 2);
+            if count <= close {
+                return BoardLine::Bytes(a, close - count, count / 2);
             }
             BoardLine::Bytes(a, 0, count / 2)
         }
@@ -150,36 +149,41 @@ fn hex_line(total: usize, address: Numeral, digits: &[u8]) -> BoardLine
     }
 }
 
-fn bytes_line(line: &[u8], end: usize) -> BoardLine
-    ensures { λ r. ⌜ r ≡ bytesLine (length (now (line .entry))) (wordsAfter (now (line .entry)) end) ⌝ }
+fn bytes_line(line: &[u8], from: usize) -> BoardLine
+    ensures { λ r. ⌜ r ≡ bytesLine (lastEnd (now (line .entry))) (wordsFrom (now (line .entry)) from) ⌝ }
 {
-    if line.len() <= end {
+    let start = words::word_start(line, from);
+    if line.len() <= start {
         return BoardLine::Unclear;
     }
-    let start = end + 1;
     let stop = words::word_end(line, start);
-    if line.len() <= stop {
+    let digits = words::word_start(line, stop);
+    if line.len() <= digits {
         return BoardLine::Unclear;
     }
-    let digits = stop + 1;
     let close = words::word_end(line, digits);
-    if close < line.len() {
+    let behind = words::word_start(line, close);
+    if behind < line.len() {
         return BoardLine::Unclear;
     }
     let address = numbers::read_number(&line[start..stop]);
-    hex_line(line.len(), address, &line[digits..close])
+    hex_line(close, address, &line[digits..close])
 }
 
 // A line that is not silent, nor too long.
 pub fn read_words(line: &[u8]) -> BoardLine
-    ensures { λ r. ⌜ r ≡ boardWords (length (now (line .entry))) (words (now (line .entry))) ⌝ }
+    ensures { λ r. ⌜ r ≡ boardWords (lastEnd (now (line .entry))) (words (now (line .entry))) ⌝ }
 {
-    let stop = words::word_end(line, 0);
-    if words::is_same(&line[0..stop], b"bytes") {
+    let start = words::word_start(line, 0);
+    if line.len() <= start {
+        return BoardLine::Unclear;
+    }
+    let stop = words::word_end(line, start);
+    if words::is_same(&line[start..stop], b"bytes") {
         return bytes_line(line, stop);
     }
     let numbers = numbers::read_numbers(line, stop);
-    read_form(&line[0..stop], numbers)
+    read_form(&line[start..stop], numbers)
 }
 
 pub fn read_line(line: &[u8]) -> BoardLine

@@ -1,17 +1,18 @@
--- Laws of numbers: reading digit by digit, and that leading zeros do not matter.
-use Prim.Native.Nat.{ℕ, zero, suc, _+_, _*_, _%_, _<_, _≤_}
+-- Laws of numbers: reading digit by digit, behind `0x` or without it.
+use Prim.Native.Nat.{ℕ, _+_, _*_, _%_, _<_, _≤_}
 use native.Mathlib.Omega.{arith}
 use mathlib.Core.Path.{_≡_, refl, ap, sym, _∙_}
 use mathlib.Core.Bool.{Bool, true, false, cond, _&&_, and-false}
 use mathlib.Core.List.{List, [], _∷_}
 use lib.Dec.{leb}
-use lib.ListN.{length, getD, drop, drop-of-length-le, List·getD-eq-default}
+use lib.ListN.{length, getD, take, drop, length-take, length-drop, drop-of-length-le, List·getD-eq-default}
 use borrow.Author.Tests.{le-leb, lt-leb}
 use Rattle.numbers.specs.declared.Numeral.{Numeral}
 use Rattle.numbers.specs.declared.Numeral.the-variants.{Value, NoNumber}
-use Rattle.numbers.specs.Numbers.{digit, allDigits, valueFrom, value, numeral, isNumeral, more, gathered, byteAt}
+use Rattle.numbers.specs.Numbers.{digit, allDigits, valueFrom, prefixLength, value, numeral, isNumeral, more, gathered, byteAt}
 use Rattle.numbers.specs.declared.Numbers.{Numbers}
-use Rattle.words.specs.LineWordLaws.{from-here}
+use Rattle.words.specs.LineWords.{ascii}
+use Rattle.words.specs.LineWordLaws.{from-here, same-length}
 
 -- a byte within a range, below it and above it
 pub within : (low high byte : ℕ) → low ≤ byte → byte ≤ high → leb low byte && leb byte high ≡ true
@@ -57,17 +58,20 @@ number-wide word i before h w =
 pub number-ends : (word : List ℕ) (i before : ℕ) → length word ≤ i → before ≤ 0xFFFFFFFF → numeralFrom before (drop i word) ≡ Value before
 number-ends word i before h e = rw (drop-of-length-le word h, le-leb before 0xFFFFFFFF e)
 
-pub number-empty : (word : List ℕ) → length word ≡ 0 → numeral word ≡ NoNumber
-unfolding numeral
-number-empty word e = rw (lt-leb 1 (length word) (omega arith))
+-- where the digits start: behind `0x`, or where the word does
+pub no-prefix : (word : List ℕ) → length word < 2 → prefixLength word ≡ 0
+unfolding prefixLength
+no-prefix word h =
+    let short : length (take 2 word) ≡ length (ascii "0x") → ⊥ = λ e. omega (arith, length-take 2 word, h, e) in
+    rw (same-length (take 2 word) (ascii "0x") short)
 
-pub number-begins : (word : List ℕ) → (length word ≡ 0 → ⊥) → numeral word ≡ numeralFrom 0 word
+pub number-empty : (word : List ℕ) (start : ℕ) → start ≡ prefixLength word → length word ≤ start → numeral word ≡ NoNumber
 unfolding numeral
-number-begins word e = rw (le-leb 1 (length word) (not-zero (length word) e))
-  where
-    not-zero : (n : ℕ) → (n ≡ 0 → ⊥) → 1 ≤ n
-    not-zero zero e = absurd (e refl)
-    not-zero (suc n) e = omega arith
+number-empty word start p h = rw (lt-leb 1 (length (drop (prefixLength word) word)) (omega (arith, length-drop (prefixLength word) word)))
+
+pub number-begins : (word : List ℕ) (start : ℕ) → start ≡ prefixLength word → start < length word → numeral word ≡ numeralFrom 0 (drop start word)
+unfolding numeral
+number-begins word start p h = rw (p, le-leb 1 (length (drop (prefixLength word) word)) (omega (arith, length-drop (prefixLength word) word)))
 
 -- a byte whose digits are not both there
 pub byte-out : (line : List ℕ) (at : ℕ) → length line ≤ at → byteAt line at ≡ 0

@@ -3,13 +3,14 @@ use Prim.Native.Nat.{ℕ, _+_, _-_, _*_, _%_}
 use mathlib.Core.Bool.{Bool, true, cond, _&&_}
 use mathlib.Core.List.{List, [], _∷_}
 use lib.Dec.{leb}
-use lib.ListN.{length, getD}
+use lib.ListN.{length, getD, take, drop}
+use Rattle.words.specs.LineWords.{ascii, same}
 use Rattle.numbers.specs.declared.Numeral.{Numeral}
 use Rattle.numbers.specs.declared.Numeral.the-variants.{Value, NoNumber}
 use Rattle.numbers.specs.declared.Numbers.{Numbers}
 use Rattle.numbers.specs.declared.Numbers.the-variants.{Zero, One, Two, Three, Four, NotNumbers}
 
--- "Numbers are .. hexadecimal without a prefix", and input may have "lower case": 0 to 9, A to F and a to f; 16 stands for any other byte
+-- "Numbers are .. hexadecimal", "Case does not matter, in words as in digits": 0 to 9, A to F and a to f; 16 stands for any other byte
 unfoldable pub digit : ℕ → ℕ
 digit byte =
     cond (leb 48 byte && leb byte 57) (byte - 48)
@@ -28,12 +29,19 @@ abbrev pub valueFrom : ℕ → List ℕ → ℕ
 valueFrom before [] = before
 valueFrom before (byte ∷ bytes) = valueFrom (before * 16 + digit byte) bytes
 
-abbrev pub value : List ℕ → ℕ
-value word = valueFrom 0 word
+-- "A number may have `0x` before it"
+unfoldable pub prefixLength : List ℕ → ℕ
+prefixLength word = cond (same (take 2 word) (ascii "0x")) 2 0
 
--- "input may have leading zeros", "Each number has a place of 32 bits": it is the value that fits, and a number has a digit
+abbrev pub digitsOf : List ℕ → List ℕ
+digitsOf word = drop (prefixLength word) word
+
+abbrev pub value : List ℕ → ℕ
+value word = valueFrom 0 (digitsOf word)
+
+-- "at least one digit must follow"; "input may have leading zeros", "Each number has a place of 32 bits": it is the value that fits
 abbrev pub isNumeral : List ℕ → Bool
-isNumeral word = leb 1 (length word) && (allDigits word && leb (value word) 0xFFFFFFFF)
+isNumeral word = leb 1 (length (digitsOf word)) && (allDigits (digitsOf word) && leb (value word) 0xFFFFFFFF)
 
 unfoldable pub numeral : List ℕ → Numeral
 numeral word = cond (isNumeral word) (Value (value word)) NoNumber

@@ -1,8 +1,8 @@
 // The desk's language: numbers, and the numbers of a line.
 ghost use mathlib.Core.Path.{_≡_};
 ghost use Prim.Native.Nat.{_≤_};
-ghost use Rattle.words.specs.LineWords.{wordsAfter};
-ghost use Rattle.numbers.specs.Numbers.{digit, allDigits, numeral, more, numbers, byteAt};
+ghost use Rattle.words.specs.LineWords.{wordsFrom};
+ghost use Rattle.numbers.specs.Numbers.{digit, allDigits, prefixLength, numeral, more, numbers, byteAt};
 
 // A word as a number.
 pub enum Numeral {
@@ -59,14 +59,28 @@ pub fn byte_at(line: &[u8], at: usize) -> u32
     high * 16 + low
 }
 
+// The bytes of `0x` before a number.
+fn prefix_length(word: &[u8]) -> usize
+    ensures { λ r. ⌜ r ≡ prefixLength (now (word .entry)) ⌝ }
+{
+    if word.len() < 2 {
+        return 0;
+    }
+    if words::is_same(&word[..2], b"0x") {
+        return 2;
+    }
+    0
+}
+
 pub fn read_number(word: &[u8]) -> Numeral
     ensures { λ r. ⌜ r ≡ numeral (now (word .entry)) ⌝ }
 {
-    if word.len() == 0 {
+    let start = prefix_length(word);
+    if word.len() <= start {
         return Numeral::NoNumber;
     }
     let mut value: u32 = 0;
-    let mut i = 0;
+    let mut i = start;
     while i < word.len() {
         let digit = digit_of(word[i]);
         if 15 < digit {
@@ -97,17 +111,19 @@ pub fn add_number(before: Numbers, numeral: Numeral) -> Numbers
     }
 }
 
-// The words behind the space at `end`, as numbers.
-pub fn read_numbers(line: &[u8], end: usize) -> Numbers
-    ensures { λ r. ⌜ r ≡ numbers (wordsAfter (now (line .entry)) end) ⌝ }
+// The words from a place on, as numbers.
+pub fn read_numbers(line: &[u8], from: usize) -> Numbers
+    ensures { λ r. ⌜ r ≡ numbers (wordsFrom (now (line .entry)) from) ⌝ }
 {
     let mut before = Numbers::Zero;
-    let mut at = end;
-    while at < line.len() {
-        let start = at + 1;
+    let mut at = from;
+    loop {
+        let start = words::word_start(line, at);
+        if line.len() <= start {
+            return before;
+        }
         let stop = words::word_end(line, start);
         before = add_number(before, read_number(&line[start..stop]));
         at = stop;
     }
-    before
 }

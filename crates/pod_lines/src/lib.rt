@@ -1,6 +1,6 @@
 // The desk's language: the lines of `pod`.
 ghost use mathlib.Core.Path.{_≡_};
-ghost use Rattle.words.specs.LineWords.{words, wordsAfter};
+ghost use Rattle.words.specs.LineWords.{words, wordsFrom};
 ghost use Rattle.numbers.specs.Numbers.{numbers};
 ghost use Rattle.request_lines.specs.RequestLines.{requestOf};
 ghost use Rattle.pod_lines.specs.PodLines.{Meaning, beforeColon, afterColon, readLine, podWords, podMeaning, PodMeets};
@@ -43,14 +43,20 @@ pub struct Parted {
     pub colon: Colon,
 }
 
-fn part_at_colon(line: &[u8], end: usize) -> Parted
-    ensures { λ r. ⌜ (r .numbers ≡ numbers (beforeColon (wordsAfter (now (line .entry)) end)))
-        × (behind (now (line .entry)) (r .colon) ≡ afterColon (wordsAfter (now (line .entry)) end)) ⌝ }
+fn part_at_colon(line: &[u8], from: usize) -> Parted
+    ensures { λ r. ⌜ (r .numbers ≡ numbers (beforeColon (wordsFrom (now (line .entry)) from)))
+        × (behind (now (line .entry)) (r .colon) ≡ afterColon (wordsFrom (now (line .entry)) from)) ⌝ }
 {
     let mut before = Numbers::Zero;
-    let mut at = end;
-    while at < line.len() {
-        let start = at + 1;
+    let mut at = from;
+    loop {
+        let start = words::word_start(line, at);
+        if line.len() <= start {
+            return Parted {
+                numbers: before,
+                colon: Colon::NoColon,
+            };
+        }
         let stop = words::word_end(line, start);
         if words::is_same(&line[start..stop], b":") {
             return Parted {
@@ -61,16 +67,12 @@ fn part_at_colon(line: &[u8], end: usize) -> Parted
         before = numbers::add_number(before, numbers::read_number(&line[start..stop]));
         at = stop;
     }
-    Parted {
-        numbers: before,
-        colon: Colon::NoColon,
-    }
 }
 
-fn take_replies(request: Request, line: &[u8], end: usize, buffer: &mut [u32]) -> PodLine
-    ensures { λ r. ⌜ PodMeets (Meaning.reads request (wordsAfter (now (line .entry)) end)) (now (buffer .entry)) r (now (buffer .exit)) ⌝ }
+fn take_replies(request: Request, line: &[u8], from: usize, buffer: &mut [u32]) -> PodLine
+    ensures { λ r. ⌜ PodMeets (Meaning.reads request (wordsFrom (now (line .entry)) from)) (now (buffer .entry)) r (now (buffer .exit)) ⌝ }
 {
-    match taking::take_numbers(line, end, buffer) {
+    match taking::take_numbers(line, from, buffer) {
         Taken::Count(count) => PodLine::Read(request, count),
         Taken::TooMany => PodLine::BufferTooShort,
         Taken::NotAllNumbers => PodLine::Unclear,
@@ -89,15 +91,15 @@ fn read_reading(asked: Asked, colon: Colon, line: &[u8], buffer: &mut [u32]) -> 
     }
 }
 
-fn read_read(line: &[u8], end: usize, buffer: &mut [u32]) -> PodLine
+fn read_read(line: &[u8], from: usize, buffer: &mut [u32]) -> PodLine
     ensures { λ r. ⌜ PodMeets
-        (readLine (requestOf (beforeColon (wordsAfter (now (line .entry)) end))) (afterColon (wordsAfter (now (line .entry)) end)))
+        (readLine (requestOf (beforeColon (wordsFrom (now (line .entry)) from))) (afterColon (wordsFrom (now (line .entry)) from)))
         (now (buffer .entry)) r (now (buffer .exit)) ⌝ }
 {
-    if line.len() <= end {
+    let start = words::word_start(line, from);
+    if line.len() <= start {
         return PodLine::Unclear;
     }
-    let start = end + 1;
     let stop = words::word_end(line, start);
     if words::is_same(&line[start..stop], b":") {
         return PodLine::Unclear;
@@ -112,14 +114,18 @@ fn read_read(line: &[u8], end: usize, buffer: &mut [u32]) -> PodLine
 fn read_words(line: &[u8], buffer: &mut [u32]) -> PodLine
     ensures { λ r. ⌜ PodMeets (podWords (words (now (line .entry)))) (now (buffer .entry)) r (now (buffer .exit)) ⌝ }
 {
-    let stop = words::word_end(line, 0);
-    if words::is_same(&line[0..stop], b"build") {
+    let start = words::word_start(line, 0);
+    if line.len() <= start {
+        return PodLine::Unclear;
+    }
+    let stop = words::word_end(line, start);
+    if words::is_same(&line[start..stop], b"build") {
         match request_lines::read_request(line, stop) {
             Asked::For(request) => return PodLine::Build(request),
             Asked::NoRequest => return PodLine::Unclear,
         }
     }
-    if words::is_same(&line[0..stop], b"read") {
+    if words::is_same(&line[start..stop], b"read") {
         return read_read(line, stop, buffer);
     }
     PodLine::Unclear

@@ -4,7 +4,7 @@ ghost use mathlib.Core.Bool.{true};
 ghost use Prim.Native.Nat.{_≤_};
 ghost use lib.ListN.{length};
 ghost use lib.Seq.{sets};
-ghost use Rattle.words.specs.LineWords.{wordsAfter};
+ghost use Rattle.words.specs.LineWords.{wordsFrom};
 ghost use Rattle.numbers.specs.Numbers.{value, isNumeral};
 ghost use Rattle.pod_lines.specs.Taking.{allNumerals, values, counted, TakingMeets};
 use crate::Taken;
@@ -29,13 +29,16 @@ fn value_of(word: &[u8]) -> u32
     }
 }
 
-fn count_numbers(line: &[u8], end: usize) -> Taken
-    ensures { λ r. ⌜ r ≡ counted (wordsAfter (now (line .entry)) end) ⌝ }
+fn count_numbers(line: &[u8], from: usize) -> Taken
+    ensures { λ r. ⌜ r ≡ counted (wordsFrom (now (line .entry)) from) ⌝ }
 {
     let mut count = 0;
-    let mut at = end;
-    while at < line.len() {
-        let start = at + 1;
+    let mut at = from;
+    loop {
+        let start = words::word_start(line, at);
+        if line.len() <= start {
+            return Taken::Count(count);
+        }
         let stop = words::word_end(line, start);
         if !is_number(&line[start..stop]) {
             return Taken::NotAllNumbers;
@@ -43,17 +46,19 @@ fn count_numbers(line: &[u8], end: usize) -> Taken
         count += 1;
         at = stop;
     }
-    Taken::Count(count)
 }
 
-fn put_numbers(line: &[u8], end: usize, buffer: &mut [u32])
-    requires { ⌜ (allNumerals (wordsAfter (now line) end) ≡ true) × (length (wordsAfter (now line) end) ≤ length (now buffer)) ⌝ }
-    ensures { λ _. ⌜ now (buffer .exit) ≡ sets (now (buffer .entry)) 0 (values (wordsAfter (now (line .entry)) end)) ⌝ }
+fn put_numbers(line: &[u8], from: usize, buffer: &mut [u32])
+    requires { ⌜ (allNumerals (wordsFrom (now line) from) ≡ true) × (length (wordsFrom (now line) from) ≤ length (now buffer)) ⌝ }
+    ensures { λ _. ⌜ now (buffer .exit) ≡ sets (now (buffer .entry)) 0 (values (wordsFrom (now (line .entry)) from)) ⌝ }
 {
     let mut count = 0;
-    let mut at = end;
-    while at < line.len() {
-        let start = at + 1;
+    let mut at = from;
+    loop {
+        let start = words::word_start(line, at);
+        if line.len() <= start {
+            return;
+        }
         let stop = words::word_end(line, start);
         buffer[count] = value_of(&line[start..stop]);
         count += 1;
@@ -61,14 +66,14 @@ fn put_numbers(line: &[u8], end: usize, buffer: &mut [u32])
     }
 }
 
-// The words behind the space at `end` as numbers into the buffer, all of them or none.
-pub fn take_numbers(line: &[u8], end: usize, buffer: &mut [u32]) -> Taken
-    ensures { λ r. ⌜ TakingMeets (wordsAfter (now (line .entry)) end) (now (buffer .entry)) r (now (buffer .exit)) ⌝ }
+// The words from a place on as numbers into the buffer, all of them or none.
+pub fn take_numbers(line: &[u8], from: usize, buffer: &mut [u32]) -> Taken
+    ensures { λ r. ⌜ TakingMeets (wordsFrom (now (line .entry)) from) (now (buffer .entry)) r (now (buffer .exit)) ⌝ }
 {
-    match count_numbers(line, end) {
+    match count_numbers(line, from) {
         Taken::Count(count) => {
             if count <= buffer.len() {
-                put_numbers(line, end, buffer);
+                put_numbers(line, from, buffer);
                 return Taken::Count(count);
             }
             Taken::TooMany

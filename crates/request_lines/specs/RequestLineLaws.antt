@@ -7,7 +7,7 @@ use mathlib.Core.List.{List, [], _∷_, _++_}
 use lib.Dec.{eqb}
 use lib.ListN.{length, take, drop}
 use lib.Seq.{take-all}
-use Rattle.words.specs.LineWords.{ascii, same}
+use Rattle.words.specs.LineWords.{ascii, lower, same}
 use Rattle.words.specs.LineWordLaws.{same-length}
 use Rattle.request_lines.specs.declared.Sized.the-variants.{NoSize}
 use Rattle.request_lines.specs.RequestLines.{sizeBehind}
@@ -15,7 +15,7 @@ use Rattle.request_lines.specs.RequestLines.{sizeBehind}
 same-parts : (name stem tail : List ℕ) → same name (stem ++ tail) ≡ same (take (length stem) name) stem && same (drop (length stem) name) tail
 same-parts name [] tail = refl
 same-parts [] (b ∷ stem) tail = refl
-same-parts (a ∷ name) (b ∷ stem) tail = by-test (same-parts name stem tail) (eqb a b)
+same-parts (a ∷ name) (b ∷ stem) tail = by-test (same-parts name stem tail) (eqb (lower a) b)
   where
     by-test : same name (stem ++ tail) ≡ same (take (length stem) name) stem && same (drop (length stem) name) tail
         → (t : Bool) → t && same name (stem ++ tail) ≡ (t && same (take (length stem) name) stem) && same (drop (length stem) name) tail

@@ -1,9 +1,7 @@
 // The desk's language: "A REQUEST is ..".
 ghost use mathlib.Core.Path.{_≡_};
 ghost use mathlib.Core.List.{[]};
-ghost use Prim.Native.Nat.{_≤_};
-ghost use lib.ListN.{length, drop};
-ghost use Rattle.words.specs.LineWords.{words, wordsAfter};
+ghost use Rattle.words.specs.LineWords.{words, wordsFrom};
 ghost use Rattle.request_lines.specs.RequestLines.{sizeBehind, plainRequest, registerRead, registerWritten};
 ghost use Rattle.request_lines.specs.RequestLines.{requestOfNone, requestOfOne, requestOfTwo, requestForm, requestOf};
 use memory::Size;
@@ -138,10 +136,14 @@ pub fn read_form(name: &[u8], numbers: Numbers) -> Asked
     }
 }
 
-fn read_from(line: &[u8], start: usize) -> Asked
-    requires { ⌜ start ≤ length (now line) ⌝ }
-    ensures { λ r. ⌜ r ≡ requestOf (words (drop start (now (line .entry)))) ⌝ }
+// A request from a place to the end of the line.
+pub fn read_request(line: &[u8], from: usize) -> Asked
+    ensures { λ r. ⌜ r ≡ requestOf (wordsFrom (now (line .entry)) from) ⌝ }
 {
+    let start = words::word_start(line, from);
+    if line.len() <= start {
+        return Asked::NoRequest;
+    }
     let stop = words::word_end(line, start);
     let numbers = numbers::read_numbers(line, stop);
     read_form(&line[start..stop], numbers)
@@ -151,15 +153,5 @@ fn read_from(line: &[u8], start: usize) -> Asked
 pub fn read_alone(line: &[u8]) -> Asked
     ensures { λ r. ⌜ r ≡ requestOf (words (now (line .entry))) ⌝ }
 {
-    read_from(line, 0)
-}
-
-// A request behind the space at `end`, to the end of the line.
-pub fn read_request(line: &[u8], end: usize) -> Asked
-    ensures { λ r. ⌜ r ≡ requestOf (wordsAfter (now (line .entry)) end) ⌝ }
-{
-    if line.len() <= end {
-        return Asked::NoRequest;
-    }
-    read_from(line, end + 1)
+    read_request(line, 0)
 }

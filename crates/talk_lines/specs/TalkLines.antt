@@ -1,10 +1,9 @@
 -- The desk's language: the lines of `talk`.
 use Prim.Native.Nat.{ℕ}
 use mathlib.Core.List.{List}
-use lib.ListN.{length}
 use Rattle.words.specs.declared.LineKind.{LineKind}
 use Rattle.words.specs.declared.LineKind.the-variants.{Silent, Clear, TooLong}
-use Rattle.words.specs.LineWords.{kindOf, words}
+use Rattle.words.specs.LineWords.{kindOf, words, lastEnd}
 use Rattle.request_lines.specs.declared.Asked.{Asked}
 use Rattle.request_lines.specs.declared.Asked.the-variants.{For, NoRequest}
 use Rattle.board_lines.specs.declared.BoardLine.{BoardLine}
@@ -35,7 +34,7 @@ askedOr NoRequest line = Board line
 
 abbrev pub eitherAt : LineKind → List ℕ → TalkLine
 eitherAt Silent line = Board Nothing
-eitherAt Clear line = askedOr (requestOf (words line)) (boardWords (length line) (words line))
+eitherAt Clear line = askedOr (requestOf (words line)) (boardWords (lastEnd line) (words line))
 eitherAt TooLong line = Board Unclear
 
 unfoldable pub eitherLine : List ℕ → TalkLine

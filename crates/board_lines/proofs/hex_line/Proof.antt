@@ -28,7 +28,7 @@ enum-told c = search needs
 returns-3 : tie.Need-returns-3
 unfolding hexLine
 returns-3 c =
-    let none : c .before .before .before .before .before .before .before .args .total - length (c .before .before .before .before .before .before .before .args .digits .now) ≡ 0 = omega arith in
+    let none : c .before .before .before .before .before .before .before .args .close - length (c .before .before .before .before .before .before .before .args .digits .now) ≡ 0 = omega arith in
     rw (c .before .before .before .before .address .given .1, ← c .before .before .is-hex .ensures, not-false (c .before .before .is-hex .result) (c .before .if1 .left), none)
 
 returns-4 : tie.Need-returns-4

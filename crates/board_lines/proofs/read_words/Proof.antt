@@ -1,9 +1,15 @@
-use native.Mathlib.Omega.{arith}
-use Rattle.words.specs.LineWordLaws.{word-from, word-end-bound}
+use Rattle.words.specs.LineWordLaws.{no-word, word-bounds, next-word}
 use Rattle.board_lines.specs.BoardLines.{boardWords}
 use borrow.Author.Needs.{needs}
 use Rattle.board_lines.proofs.read_words.Statement.{statement}
 use Rattle.board_lines.proofs.read_words.Tie as tie
+
+word-start-requires : tie.Need-word-start-requires
+word-start-requires c κs = search needs
+
+returns : tie.Need-returns
+unfolding boardWords
+returns c = rw (no-word (c .before .before .before .args .line .now) 0 (c .before .word-start .result) (c .before .word-start .ensures) (c .if1 .taken))
 
 word-end-requires : tie.Need-word-end-requires
 word-end-requires c κs = search needs
@@ -15,7 +21,7 @@ part-is-same-start : tie.Need-part-is-same-start
 part-is-same-start c = search needs
 
 part-is-same-end : tie.Need-part-is-same-end
-part-is-same-end c = word-end-bound (c .before .before .args .line .now) 0 (c .word-end .result) (omega arith) (c .word-end .ensures)
+part-is-same-end c = word-bounds (c .before .before .before .before .args .line .now) 0 (c .before .before .word-start .result) (c .before .before .word-start .ensures) (c .word-end .result) (c .before .if1 .left) (c .word-end .ensures) .2
 
 slice-aggregate-is-same : tie.Need-slice-aggregate-is-same
 slice-aggregate-is-same c = search needs
@@ -26,13 +32,12 @@ is-same-requires c κs = search needs
 bytes-line-requires : tie.Need-bytes-line-requires
 bytes-line-requires c κs = search needs
 
-returns : tie.Need-returns
+returns-2 : tie.Need-returns-2
 unfolding boardWords
-returns c =
-    let line = c .before .before .before .before .before .before .before .args .line .now in
-    let stop = c .before .before .before .before .before .word-end .result in
-    let cut = word-from line 0 stop (omega arith) (c .before .before .before .before .before .word-end .ensures) in
-    rw (cut, ← c .before .before .is-same .ensures, c .before .if1 .taken, ← c .bytes-line .ensures)
+returns-2 c =
+    let cut = next-word (c .before .before .before .before .before .before .before .before .before .args .line .now) 0 (c .before .before .before .before .before .before .before .word-start .result) (c .before .before .before .before .before .before .before .word-start .ensures)
+    (c .before .before .before .before .before .word-end .result) (c .before .before .before .before .before .before .if1 .left) (c .before .before .before .before .before .word-end .ensures) in
+    rw (cut, ← c .before .before .is-same .ensures, c .before .if2 .taken, ← c .bytes-line .ensures)
 
 read-numbers-requires : tie.Need-read-numbers-requires
 read-numbers-requires c κs = search needs
@@ -44,23 +49,27 @@ part-read-form-start : tie.Need-part-read-form-start
 part-read-form-start c = search needs
 
 part-read-form-end : tie.Need-part-read-form-end
-part-read-form-end c = word-end-bound (c .before .before .before .before .before .before .before .args .line .now) 0 (c .before .before .before .before .before .word-end .result) (omega arith) (c .before .before .before .before .before .word-end .ensures)
+part-read-form-end c =
+    word-bounds (c .before .before .before .before .before .before .before .before .before .args .line .now) 0 (c .before .before .before .before .before .before .before .word-start .result) (c .before .before .before .before .before .before .before .word-start .ensures)
+    (c .before .before .before .before .before .word-end .result) (c .before .before .before .before .before .before .if1 .left) (c .before .before .before .before .before .word-end .ensures) .2
 
 read-form-requires : tie.Need-read-form-requires
 read-form-requires c κs = search needs
 
-returns-2 : tie.Need-returns-2
+returns-3 : tie.Need-returns-3
 unfolding boardWords
-returns-2 c =
-    let line = c .before .before .before .before .before .before .before .before .before .args .line .now in
-    let stop = c .before .before .before .before .before .before .before .word-end .result in
-    let cut = word-from line 0 stop (omega arith) (c .before .before .before .before .before .before .before .word-end .ensures) in
-    rw (cut, ← c .before .before .before .before .is-same .ensures, c .before .before .before .if1 .left, ← c .before .before .read-numbers .ensures, ← c .read-form .ensures)
+returns-3 c =
+    let cut = next-word (c .before .before .before .before .before .before .before .before .before .before .before .args .line .now) 0 (c .before .before .before .before .before .before .before .before .before .word-start .result)
+    (c .before .before .before .before .before .before .before .before .before .word-start .ensures) (c .before .before .before .before .before .before .before .word-end .result) (c .before .before .before .before .before .before .before .before .if1 .left)
+    (c .before .before .before .before .before .before .before .word-end .ensures) in
+    rw (cut, ← c .before .before .before .before .is-same .ensures, c .before .before .before .if2 .left, ← c .before .before .read-numbers .ensures, ← c .read-form .ensures)
 
 pub read-words-spec : {M : Type 1} → statement M
 read-words-spec =
     tie.close
     (tie.spec
+    word-start-requires
+    returns
     word-end-requires
     sub-is-same
     part-is-same-start
@@ -68,10 +77,10 @@ read-words-spec =
     slice-aggregate-is-same
     is-same-requires
     bytes-line-requires
-    returns
+    returns-2
     read-numbers-requires
     sub-read-form
     part-read-form-start
     part-read-form-end
     read-form-requires
-    returns-2)
+    returns-3)

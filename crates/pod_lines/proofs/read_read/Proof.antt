@@ -1,16 +1,14 @@
-use native.Mathlib.Omega.{arith}
-use Rattle.words.specs.LineWordLaws.{word-end-bound, after-word, after-out}
+use Rattle.words.specs.LineWordLaws.{no-word, word-bounds, next-word}
 use Rattle.pod_lines.specs.PodLineLaws.{as-meant, says-unclear}
-use Prim.Native.Nat.{_+_}
 use borrow.Author.Needs.{needs}
 use Rattle.pod_lines.proofs.read_read.Statement.{statement}
 use Rattle.pod_lines.proofs.read_read.Tie as tie
 
-returns : tie.Need-returns
-returns c = as-meant (rw (after-out (c .before .before .before .args .line .now) (c .before .before .before .args .end) (c .if1 .taken))) (says-unclear _)
+word-start-requires : tie.Need-word-start-requires
+word-start-requires c κs = search needs
 
-add-start : tie.Need-add-start
-add-start c = search needs
+returns : tie.Need-returns
+returns c = as-meant (rw (no-word (c .before .before .before .before .args .line .now) (c .before .before .before .before .args .from) (c .before .word-start .result) (c .before .word-start .ensures) (c .if1 .taken))) (says-unclear _)
 
 word-end-requires : tie.Need-word-end-requires
 word-end-requires c κs = search needs
@@ -22,7 +20,8 @@ part-is-same-start : tie.Need-part-is-same-start
 part-is-same-start c = search needs
 
 part-is-same-end : tie.Need-part-is-same-end
-part-is-same-end c = word-end-bound (c .before .before .before .before .args .line .now) (c .before .before .before .before .args .end + 1) (c .word-end .result) (omega arith) (c .word-end .ensures)
+part-is-same-end c =
+    word-bounds (c .before .before .before .before .before .args .line .now) (c .before .before .before .before .before .args .from) (c .before .before .word-start .result) (c .before .before .word-start .ensures) (c .word-end .result) (c .before .if1 .left) (c .word-end .ensures) .2
 
 slice-aggregate-is-same : tie.Need-slice-aggregate-is-same
 slice-aggregate-is-same c = search needs
@@ -32,10 +31,8 @@ is-same-requires c κs = search needs
 
 returns-2 : tie.Need-returns-2
 returns-2 c =
-    let line = c .before .before .before .before .before .before .before .before .args .line .now in
-    let end = c .before .before .before .before .before .before .before .before .args .end in
-    let stop = c .before .before .before .before .word-end .result in
-    let cut = after-word line end stop (c .before .before .before .before .before .if1 .left) (c .before .before .before .before .word-end .ensures) in
+    let cut = next-word (c .before .before .before .before .before .before .before .before .before .args .line .now) (c .before .before .before .before .before .before .before .before .before .args .from) (c .before .before .before .before .before .before .word-start .result)
+    (c .before .before .before .before .before .before .word-start .ensures) (c .before .before .before .before .word-end .result) (c .before .before .before .before .before .if1 .left) (c .before .before .before .before .word-end .ensures) in
     as-meant (rw (cut, ← c .before .is-same .ensures, c .if2 .taken)) (says-unclear _)
 
 part-at-colon-requires : tie.Need-part-at-colon-requires
@@ -49,8 +46,9 @@ part-read-form-start c = search needs
 
 part-read-form-end : tie.Need-part-read-form-end
 part-read-form-end c =
-    word-end-bound (c .before .before .before .before .before .before .before .before .before .args .line .now) (c .before .before .before .before .before .before .before .before .before .args .end + 1) (c .before .before .before .before .before .word-end .result) (omega arith)
-    (c .before .before .before .before .before .word-end .ensures)
+    word-bounds (c .before .before .before .before .before .before .before .before .before .before .args .line .now) (c .before .before .before .before .before .before .before .before .before .before .args .from)
+    (c .before .before .before .before .before .before .before .word-start .result) (c .before .before .before .before .before .before .before .word-start .ensures) (c .before .before .before .before .before .word-end .result)
+    (c .before .before .before .before .before .before .if1 .left) (c .before .before .before .before .before .word-end .ensures) .2
 
 read-form-requires : tie.Need-read-form-requires
 read-form-requires c κs = search needs
@@ -63,21 +61,20 @@ same-length c = search needs
 
 returns-3 : tie.Need-returns-3
 returns-3 c =
-    let line = c .before .before .before .before .before .before .before .before .before .before .before .before .before .before .before .args .line .now in
-    let end = c .before .before .before .before .before .before .before .before .before .before .before .before .before .before .before .args .end in
-    let stop = c .before .before .before .before .before .before .before .before .before .before .before .word-end .result in
-    let cut = after-word line end stop (c .before .before .before .before .before .before .before .before .before .before .before .before .if1 .left) (c .before .before .before .before .before .before .before .before .before .before .before .word-end .ensures) in
+    let cut = next-word (c .before .before .before .before .before .before .before .before .before .before .before .before .before .before .before .before .args .line .now)
+    (c .before .before .before .before .before .before .before .before .before .before .before .before .before .before .before .before .args .from) (c .before .before .before .before .before .before .before .before .before .before .before .before .before .word-start .result)
+    (c .before .before .before .before .before .before .before .before .before .before .before .before .before .word-start .ensures) (c .before .before .before .before .before .before .before .before .before .before .before .word-end .result)
+    (c .before .before .before .before .before .before .before .before .before .before .before .before .if1 .left) (c .before .before .before .before .before .before .before .before .before .before .before .word-end .ensures) in
     let parted = c .before .before .before .before .before .before .part-at-colon .ensures in
-    as-meant
-    (rw (cut, ← c .before .before .before .before .before .before .before .before .is-same .ensures, c .before .before .before .before .before .before .before .if2 .left, ← parted .0, ← c .before .before .before .before .read-form .ensures, ← parted .1))
+    as-meant (rw (cut, ← c .before .before .before .before .before .before .before .before .is-same .ensures, c .before .before .before .before .before .before .before .if2 .left, ← parted .0, ← c .before .before .before .before .read-form .ensures, ← parted .1))
     (c .before .before .read-reading .ensures)
 
 pub read-read-spec : {M : Type 1} → statement M
 read-read-spec =
     tie.close
     (tie.spec
+    word-start-requires
     returns
-    add-start
     word-end-requires
     sub-is-same
     part-is-same-start

@@ -1,23 +1,50 @@
-use borrow.Author.Tests.{lt-ltb}
-use Rattle.words.specs.LineWordLaws.{after-out}
+use Rattle.words.specs.LineWordLaws.{no-word, word-bounds, next-word}
 use borrow.Author.Needs.{needs}
 use Rattle.request_lines.proofs.read_request.Statement.{statement}
 use Rattle.request_lines.proofs.read_request.Tie as tie
-use Rattle.request_lines.proofs.read_request.Reads as reads
-use Rattle.request_lines.proofs.read_request.Lts as lts
-use Rattle.request_lines.proofs.read_from.Reads as read-from-reads
+
+word-start-requires : tie.Need-word-start-requires
+word-start-requires c κs = search needs
 
 returns : tie.Need-returns
-returns c = rw (after-out (c .before .before .args .line .now) (c .before .before .args .end) (c .if1 .taken))
+returns c = rw (no-word (c .before .before .before .args .line .now) (c .before .before .before .args .from) (c .before .word-start .result) (c .before .word-start .ensures) (c .if1 .taken))
 
-add-read-from : tie.Need-add-read-from
-add-read-from c = search needs
+word-end-requires : tie.Need-word-end-requires
+word-end-requires c κs = search needs
 
-read-from-requires : tie.Need-read-from-requires
-read-from-requires c κs = search needs
+read-numbers-requires : tie.Need-read-numbers-requires
+read-numbers-requires c κs = search needs
+
+sub-read-form : tie.Need-sub-read-form
+sub-read-form c = search needs
+
+part-read-form-start : tie.Need-part-read-form-start
+part-read-form-start c = search needs
+
+part-read-form-end : tie.Need-part-read-form-end
+part-read-form-end c =
+    word-bounds (c .before .before .before .before .before .args .line .now) (c .before .before .before .before .before .args .from) (c .before .before .before .word-start .result) (c .before .before .before .word-start .ensures) (c .before .word-end .result)
+    (c .before .before .if1 .left) (c .before .word-end .ensures) .2
+
+read-form-requires : tie.Need-read-form-requires
+read-form-requires c κs = search needs
 
 returns-2 : tie.Need-returns-2
-returns-2 c = rw (lt-ltb _ _ (c .before .if1 .left), ← c .read-from .ensures)
+returns-2 c =
+    let cut = next-word (c .before .before .before .before .before .before .before .args .line .now) (c .before .before .before .before .before .before .before .args .from) (c .before .before .before .before .before .word-start .result)
+    (c .before .before .before .before .before .word-start .ensures) (c .before .before .before .word-end .result) (c .before .before .before .before .if1 .left) (c .before .before .before .word-end .ensures) in
+    rw (cut, ← c .before .before .read-numbers .ensures, ← c .read-form .ensures)
 
 pub read-request-spec : {M : Type 1} → statement M
-read-request-spec = tie.close (tie.spec returns add-read-from read-from-requires returns-2)
+read-request-spec =
+    tie.close
+    (tie.spec
+    word-start-requires
+    returns
+    word-end-requires
+    read-numbers-requires
+    sub-read-form
+    part-read-form-start
+    part-read-form-end
+    read-form-requires
+    returns-2)

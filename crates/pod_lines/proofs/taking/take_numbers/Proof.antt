@@ -1,7 +1,7 @@
 use Rattle.pod_lines.specs.TakingLaws.{takes-none-of-too-many, takes-none-of-others}
 use mathlib.Core.Path.{sym, _∙_}
 use native.Mathlib.Omega.{arith}
-use Rattle.words.specs.LineWords.{wordsAfter}
+use Rattle.words.specs.LineWords.{wordsFrom}
 use Rattle.pod_lines.specs.TakingLaws.{count-tells, takes-all, takes-none}
 use borrow.Author.Needs.{needs}
 use Rattle.pod_lines.proofs.taking.take_numbers.Statement.{statement}
@@ -15,7 +15,7 @@ enum-known-count c = search needs
 
 put-numbers-requires : tie.Need-put-numbers-requires
 put-numbers-requires c κs =
-    let told = count-tells (wordsAfter (c .before .before .before .before .before .before .before .before .args .line .now) (c .before .before .before .before .before .before .before .before .args .end)) (c .before .before .before .count .given .0 .0)
+    let told = count-tells (wordsFrom (c .before .before .before .before .before .before .before .before .args .line .now) (c .before .before .before .before .before .before .before .before .args .from)) (c .before .before .before .count .given .0 .0)
     (sym (c .before .before .before .before .before .count-numbers .ensures) ∙ c .before .before .before .count .given .1) in
     (told .0, omega arith)
 
@@ -24,7 +24,7 @@ same-length c = search needs
 
 returns : tie.Need-returns
 returns c =
-    takes-all (wordsAfter (c .before .before .before .before .before .before .before .before .before .before .before .args .line .now) (c .before .before .before .before .before .before .before .before .before .before .before .args .end))
+    takes-all (wordsFrom (c .before .before .before .before .before .before .before .before .before .before .before .args .line .now) (c .before .before .before .before .before .before .before .before .before .before .before .args .from))
     (c .before .before .before .before .before .before .before .before .before .before .before .args .buffer .now) (c .before .before .before .before .before .before .count .given .0 .0)
     (sym (c .before .before .before .before .before .before .before .before .count-numbers .ensures) ∙ c .before .before .before .before .before .before .count .given .1) (c .before .before .before .before .if1 .taken) _ (c .before .before .put-numbers .ensures)
 
@@ -36,16 +36,16 @@ enum-told-2 c = search needs
 
 returns-2 : tie.Need-returns-2
 returns-2 c =
-    takes-none (wordsAfter (c .before .before .before .before .before .before .before .args .line .now) (c .before .before .before .before .before .before .before .args .end)) (c .before .before .before .before .before .before .before .args .buffer .now) (c .before .before .count .given .0 .0)
+    takes-none (wordsFrom (c .before .before .before .before .before .before .before .args .line .now) (c .before .before .before .before .before .before .before .args .from)) (c .before .before .before .before .before .before .before .args .buffer .now) (c .before .before .count .given .0 .0)
     (sym (c .before .before .before .before .count-numbers .ensures) ∙ c .before .before .count .given .1) (c .if1 .left)
 
 returns-3 : tie.Need-returns-3
 returns-3 c =
-    takes-none-of-too-many (wordsAfter (c .before .before .before .before .before .args .line .now) (c .before .before .before .before .before .args .end)) (c .before .before .before .before .before .args .buffer .now) (sym (c .before .before .count-numbers .ensures) ∙ c .enum-told .given .1)
+    takes-none-of-too-many (wordsFrom (c .before .before .before .before .before .args .line .now) (c .before .before .before .before .before .args .from)) (c .before .before .before .before .before .args .buffer .now) (sym (c .before .before .count-numbers .ensures) ∙ c .enum-told .given .1)
 
 returns-4 : tie.Need-returns-4
 returns-4 c =
-    takes-none-of-others (wordsAfter (c .before .before .before .before .before .args .line .now) (c .before .before .before .before .before .args .end)) (c .before .before .before .before .before .args .buffer .now) (sym (c .before .before .count-numbers .ensures) ∙ c .enum-told2 .given .1)
+    takes-none-of-others (wordsFrom (c .before .before .before .before .before .args .line .now) (c .before .before .before .before .before .args .from)) (c .before .before .before .before .before .args .buffer .now) (sym (c .before .before .count-numbers .ensures) ∙ c .enum-told2 .given .1)
 
 pub take-numbers-spec : {M : Type 1} → statement M
 take-numbers-spec =
