@@ -16,7 +16,7 @@ use Rattle.text.specs.Text.{ascii, Puts}
 use Rattle.text.specs.NumberText.{numberText}
 use Rattle.text.specs.RefusalText.{unclearText, refusedText}
 use Rattle.replies.specs.ReplyText.{packetText, eventText, breakpointText, peekText}
-use Rattle.replies.specs.StateText.{stateText}
+use Rattle.state_line.specs.StateText.{stateText}
 use Rattle.board_lines.specs.declared.BoardLine.{BoardLine}
 use Rattle.board_lines.specs.declared.BoardLine.the-variants.{Nothing, Make, Memory, Bytes, Packet, Event as EventLine}
 use Rattle.board_lines.specs.declared.BoardLine.the-variants.{EventWithAccess, Breakpoint, Peek, State, Unclear}

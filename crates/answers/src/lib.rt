@@ -13,7 +13,7 @@ ghost use lib.ListN.{take};
 ghost use lib.Seq.{sets};
 ghost use Rattle.text.specs.Text.{Puts};
 ghost use Rattle.replies.specs.ReplyText.{packetText, eventText, breakpointText};
-ghost use Rattle.replies.specs.StateText.{stateText};
+ghost use Rattle.state_line.specs.StateText.{stateText};
 ghost use Rattle.board.specs.Board.{freshBoard, freshPlace, makingVerdict};
 ghost use Rattle.grounds.specs.Grounds.{ifAccepted};
 ghost use Rattle.bus.specs.Events.{eventOutcome, boardAfterEvent, breakpointOutcome, boardAfterBreakpoint};
@@ -187,7 +187,7 @@ fn tell_state(bench: Bench, text: &mut [u8]) -> Answered
     let place = bench.place;
     Answered {
         bench: bench,
-        end: replies::put_state(text, board, place),
+        end: state_line::put_state(text, board, place),
     }
 }
 

@@ -1,5 +1,5 @@
 -- Laws of what is said to the pod's lines: the words built, and the replies read.
-use Prim.Native.Nat.{ℕ, suc, _≤_, _<_}
+use Prim.Native.Nat.{ℕ, suc, _≤_}
 use mathlib.Core.Path.{_≡_, refl, ap, sym, _∙_}
 use mathlib.Core.Bool.{Bool, true, false, cond}
 use mathlib.Core.List.{List, [], _∷_, _++_}
@@ -12,7 +12,7 @@ use Rattle.grounds.specs.declared.Ground.{Ground}
 use Rattle.grounds.specs.declared.Ground.the-variants.{RequestOutOfRange, BufferTooShort as WordsTooShort}
 use Rattle.grounds.specs.declared.Verdict.{Verdict}
 use Rattle.grounds.specs.declared.Verdict.the-variants.{Accepted, Refused}
-use Rattle.grounds.specs.Grounds.{check, ifAccepted}
+use Rattle.grounds.specs.Grounds.{check}
 use Rattle.grounds.specs.GroundLaws.{number-is-not-zero, same-number-same-ground, accepted-holds}
 use Rattle.requests.specs.declared.Request.{Request}
 use Rattle.requests.specs.Request.{inRange}
@@ -26,11 +26,10 @@ use Rattle.pod_laws.specs.ReadingUnique.{told-reading-unique}
 use Rattle.text.specs.Text.{Puts}
 use Rattle.text.specs.RefusalText.{unclearText, refusedText}
 use Rattle.text.specs.RequestText.{wordsText, readingText}
-use Rattle.pod_lines.specs.declared.Taken.{Taken}
 use Rattle.pod_lines.specs.declared.Taken.the-variants.{Count, TooMany, NotAllNumbers}
 use Rattle.pod_lines.specs.declared.PodLine.{PodLine}
 use Rattle.pod_lines.specs.declared.PodLine.the-variants.{Nothing, Build, Read, BufferTooShort, Unclear}
-use Rattle.pod_lines.specs.Taking.{values, allNumerals, counted, taken, bufferAfter}
+use Rattle.pod_lines.specs.Taking.{values, allNumerals, taken, bufferAfter}
 use Rattle.pod_lines.specs.PodLines.{Meaning, nothing, builds, reads, unclear, readAnswer, podMeaning, answered, bufferOf, PodMeets}
 use Rattle.conversation.specs.PodSaid.{builtBy, builtText, readText, podText, podSaid}
 

@@ -1,4 +1,2 @@
 pub mod ReplyText
-pub mod StateText
-pub mod StateTextMirror
 pub mod ReplyTextLaws

@@ -1,15 +1,13 @@
--- Laws of the text of `peek` and of `state`: byte by byte, mark by mark.
+-- Laws of the text of `peek`: byte by byte.
 use Prim.Native.Nat.{ℕ, zero, suc, _+_, _-_, _≤_, _<_}
 use mathlib.Core.Path.{_≡_, refl}
 use mathlib.Core.List.{List, [], _++_}
 use native.Mathlib.Omega.{arith}
 use native.Mathlib.Nat.{add-zero, add-suc, sub-zero}
 use native.Mathlib.Numerals.{add-one}
-use lib.ListN.{length, drop, getD}
-use lib.Seq.{drop-cons}
+use lib.ListN.{getD}
 use Rattle.text.specs.NumberText.{hexText}
 use Rattle.replies.specs.ReplyText.{bytesText}
-use Rattle.replies.specs.StateTextMirror.{markText, nextAfter, formText}
 
 -- the bytes from one of them on
 pub bytes-on : (m : List ℕ) (from count i : ℕ) → i < count
@@ -25,8 +23,3 @@ bytes-begin m from count = rw (add-zero, sub-zero)
 
 pub bytes-end : (m : List ℕ) (from count i : ℕ) → count ≤ i → bytesText m (from + i) (count - i) ≡ []
 bytes-end m from count i h = let none : count - i ≡ 0 = omega arith in rw none
-
--- the form from one of its marks on
-pub form-on : (form values : List ℕ) (i next : ℕ) → i < length form
-    → formText (drop i form) next values ≡ markText (getD form i 0) next values ++ formText (drop (i + 1) form) (nextAfter (getD form i 0) next values) values
-form-on form values i next h = rw (add-one i, drop-cons form i 0 h)

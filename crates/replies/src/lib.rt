@@ -12,10 +12,6 @@ use bus::Seen;
 use port::Outcome;
 use text::request::put_refusal;
 
-mod state;
-
-pub use state::put_state;
-
 pub fn put_reply(text: &mut [u8], outcome: Outcome) -> usize
     ensures { λ r. ⌜ Puts (now (text .entry)) 0 (packetText outcome) (now (text .exit)) r ⌝ }
 {

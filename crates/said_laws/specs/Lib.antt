@@ -1,1 +1,2 @@
 pub mod SaidUnique
+pub mod SaidLengthLaws

@@ -36,8 +36,10 @@ use Rattle.text_laws.specs.ReadBackLaws.{decimalValue}
 use Rattle.text_laws.specs.ToldBackLaws.{PacketHeld, refusalOf, refusal-back, outcomeOf, numberAt, OutcomeHeld, exchange-back}
 use Rattle.text_laws.specs.ToldUnique.{packet-text-unique}
 use Rattle.answers.specs.declared.Bench.{Bench}
-use Rattle.answers.specs.Bench.{portState}
-use Rattle.answers.specs.Said.{said}
+use Rattle.answers.specs.declared.Answered.{Answered}
+use Rattle.answers.specs.Bench.{Left, portState}
+use Rattle.answers.specs.Said.{said, Answers}
+use Rattle.text_laws.specs.TextUnique.{puts-unique}
 use Rattle.answers.specs.SaidLaws.{packet-outcome}
 use Rattle.asking.specs.Asking.{exchangedText, exchangeSaid}
 use Rattle.asking.specs.AskingLaws.{exchange-outcome}
@@ -112,3 +114,14 @@ module _ (request : Request) (bench : Bench) (m : List ℕ) {r : Returned} {afte
   exchange-said-unique meets held =
       let said = ap exchangedText (sym (exchange-outcome meets)) in
       (said, λ x h e. exchanged-unique x (r .answer) h held (e ∙ said))
+
+-- a line answered: no second bench, memory or text fit
+pub answers-unique : {left : Left} {text buffer : List ℕ} {r s : Answered} {m n a b : List ℕ} → Answers left text buffer r m a → Answers left text buffer s n b
+    → (r ≡ s) × (m ≡ n) × (a ≡ b)
+answers-unique {r = r} {s = s} f g =
+    let told = puts-unique (f .text) (g .text) in (
+      ap (λ (bench : Bench). record { bench = bench; end = r .end }) (f .bench ∙ sym (g .bench))
+          ∙ ap (λ (end : ℕ). record { bench = s .bench; end = end }) (told .1),
+      f .memory ∙ sym (g .memory),
+      told .0,
+    )

@@ -7,7 +7,7 @@ use native.Mathlib.Omega.{arith}
 use native.Mathlib.Nat.{zero-add}
 use native.Mathlib.Numerals.{add-one}
 use lib.Dec.{leb}
-use lib.ListN.{length, set, take, drop, getD, length-append, length-take, take-append-drop, drop-of-length-le}
+use lib.ListN.{length, take, drop, getD, length-append, length-take, take-append-drop, drop-of-length-le}
 use lib.Seq.{drop-cons, sets, sets-eq, length-sets, set-out, take-at, take-all}
 use borrow.Author.Tests.{leb-true, leb-false}
 use Rattle.laws.specs.StoreLaws.{sets-append}

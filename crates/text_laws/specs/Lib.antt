@@ -3,3 +3,4 @@ pub mod NumberUnique
 pub mod ToldBackLaws
 pub mod ToldUnique
 pub mod TextExamples
+pub mod TextUnique

@@ -1,10 +1,10 @@
 -- Laws of reading numbers back: what was written is read again, in hexadecimal at its width and without one, and in decimal.
 use Prim.Native.Nat.{ℕ, zero, suc, _+_, _-_, _*_, _/_, _%_, _^_, _≤_, _<_}
 use mathlib.Core.Path.{_≡_, refl, ap, _∙_}
-use mathlib.Core.Bool.{Bool, true, false, cond, _&&_}
+use mathlib.Core.Bool.{Bool, true, false, cond}
 use mathlib.Core.List.{List, [], _∷_}
 use native.Mathlib.Omega.{arith}
-use native.Mathlib.Nat.{div-div-eq-div-mul, div-add-mod, mod-one, mod-lt, mod-eq-of-lt, pow-zero, pow-suc, mul-assoc}
+use native.Mathlib.Nat.{div-div-eq-div-mul, div-add-mod, mod-one, mod-lt, mod-eq-of-lt, pow-zero, pow-suc}
 use lib.Dec.{ltb, leb}
 use lib.ListN.{length}
 use borrow.Author.Tests.{ltb-true, ltb-false, le-leb}
@@ -94,7 +94,8 @@ all-digits (suc k) n =
     let e : leb (digit (digitText d)) 15 ≡ true = rw (hex-worth d small) (le-leb d 15 (omega arith)) in
     rw (e) (all-digits k n)
 
-digits-length : (base k n : ℕ) → length (digitsText base k n) ≡ k
+-- so many digits are so many bytes
+pub digits-length : (base k n : ℕ) → length (digitsText base k n) ≡ k
 unfolding digitsText
 digits-length base zero n = refl
 digits-length base (suc k) n = ap suc (digits-length base k n)

@@ -15,7 +15,7 @@ use Rattle.text.specs.RefusalText.{refusedAt, refusedText}
 use Rattle.text.specs.RequestText.{wordsText, readingText, exchangeText}
 use Rattle.text.specs.ListingText.{headText, itemText}
 use Rattle.replies.specs.ReplyText.{packetText, seenText, pressedText, peekText}
-use Rattle.replies.specs.StateText.{registersText, stateText}
+use Rattle.state_line.specs.StateText.{registersText, stateText}
 
 pub record Shown : Type 0 where
   pub thirty-two-bits : numberText 0xFFFFFFFF ≡ ascii "FFFFFFFF"

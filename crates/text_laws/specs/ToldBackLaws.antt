@@ -1,6 +1,6 @@
 -- Laws of the answers' text: what was told is read back from it.
 use Prim.Native.Nat.{ℕ, _+_, _-_, _*_, _/_, _%_, _^_, _<_}
-use mathlib.Core.Path.{_≡_, refl, ap, _∙_}
+use mathlib.Core.Path.{_≡_, refl, ap}
 use mathlib.Core.Bool.{Bool, true, false, cond}
 use mathlib.Core.List.{List}
 use native.Mathlib.Omega.{arith}
@@ -26,8 +26,8 @@ use Rattle.bus.specs.declared.EventOutcome.the-variants as event
 use Rattle.bus.specs.declared.BreakpointOutcome.{BreakpointOutcome}
 use Rattle.bus.specs.declared.BreakpointOutcome.the-variants as breakpoint
 use Rattle.numbers.specs.Numbers.{value}
-use Rattle.text.specs.NumberText.{digitText, digitsText, widthFrom, hexText}
-use Rattle.text.specs.RefusalText.{refusedAt, refusedText}
+use Rattle.text.specs.NumberText.{digitText, digitsText, widthFrom}
+use Rattle.text.specs.RefusalText.{refusedAt}
 use Rattle.text.specs.RequestText.{readingText, exchangeText}
 use Rattle.replies.specs.ReplyText.{packetText, capturedText, seenText, eventText, pressedText, breakpointText}
 use Rattle.text_laws.specs.ReadBackLaws.{decimalValue, hex-back, decimal-back}

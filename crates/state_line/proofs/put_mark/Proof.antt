@@ -2,8 +2,8 @@ use Rattle.text.specs.TextLaws.{nothing}
 use borrow.Author.Tests.{lt-ltb, le-ltb}
 use mathlib.Core.Path.{refl}
 use borrow.Author.Needs.{needs}
-use Rattle.replies.proofs.state.put_mark.Statement.{statement}
-use Rattle.replies.proofs.state.put_mark.Tie as tie
+use Rattle.state_line.proofs.put_mark.Statement.{statement}
+use Rattle.state_line.proofs.put_mark.Tie as tie
 
 put-byte-requires : tie.Need-put-byte-requires
 put-byte-requires c κs = search needs

@@ -1,8 +1,8 @@
 use Rattle.text.specs.TextLaws.{_then_}
-use Rattle.replies.specs.StateText.{registersText}
+use Rattle.state_line.specs.StateText.{registersText}
 use borrow.Author.Needs.{needs}
-use Rattle.replies.proofs.state.put_registers.Statement.{statement}
-use Rattle.replies.proofs.state.put_registers.Tie as tie
+use Rattle.state_line.proofs.put_registers.Statement.{statement}
+use Rattle.state_line.proofs.put_registers.Tie as tie
 
 put-status-requires : tie.Need-put-status-requires
 put-status-requires c κs = search needs

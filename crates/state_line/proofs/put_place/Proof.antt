@@ -1,7 +1,7 @@
 use Rattle.text.specs.TextLaws.{_then_}
 use borrow.Author.Needs.{needs}
-use Rattle.replies.proofs.state.put_place.Statement.{statement}
-use Rattle.replies.proofs.state.put_place.Tie as tie
+use Rattle.state_line.proofs.put_place.Statement.{statement}
+use Rattle.state_line.proofs.put_place.Tie as tie
 
 put-phase-requires : tie.Need-put-phase-requires
 put-phase-requires c κs = search needs

@@ -1,8 +1,8 @@
 use Rattle.text.specs.TextLaws.{_then_}
-use Rattle.replies.specs.StateText.{stateText}
+use Rattle.state_line.specs.StateText.{stateText}
 use borrow.Author.Needs.{needs}
-use Rattle.replies.proofs.state.put_state.Statement.{statement}
-use Rattle.replies.proofs.state.put_state.Tie as tie
+use Rattle.state_line.proofs.put_state.Statement.{statement}
+use Rattle.state_line.proofs.put_state.Tie as tie
 
 slice-aggregate-put-text : tie.Need-slice-aggregate-put-text
 slice-aggregate-put-text c = search needs

@@ -1,10 +1,9 @@
 // The line `state`: all that the board and the place hold.
 ghost use mathlib.Core.Path.{_≡_};
-ghost use mathlib.Core.List.{_++_};
 ghost use Rattle.text.specs.Text.{Puts};
-ghost use Rattle.replies.specs.StateText.{bitOf, fieldsText, statusFields, debugFields, dataFields, addressFields, controlFields, syncFields};
-ghost use Rattle.replies.specs.StateText.{registersText, phaseText, chainText, placeText, stateText};
-ghost use Rattle.replies.specs.StateTextMirror.{markText, nextAfter, formText};
+ghost use Rattle.state_line.specs.StateText.{bitOf, fieldsText, statusFields, debugFields, dataFields, addressFields, controlFields, syncFields};
+ghost use Rattle.state_line.specs.StateText.{registersText, phaseText, chainText, placeText, stateText};
+ghost use Rattle.state_line.specs.StateTextMirror.{markText, nextAfter, formText};
 use board::Board;
 use board::Chain;
 use board::Debug;

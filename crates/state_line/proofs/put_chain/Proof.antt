@@ -1,6 +1,6 @@
 use borrow.Author.Needs.{needs}
-use Rattle.replies.proofs.state.put_chain.Statement.{statement}
-use Rattle.replies.proofs.state.put_chain.Tie as tie
+use Rattle.state_line.proofs.put_chain.Statement.{statement}
+use Rattle.state_line.proofs.put_chain.Tie as tie
 
 enum-told : tie.Need-enum-told
 enum-told c = search needs

@@ -1,7 +1,7 @@
 use Rattle.text.specs.TextLaws.{_then_}
 use borrow.Author.Needs.{needs}
-use Rattle.replies.proofs.state.put_phase.Statement.{statement}
-use Rattle.replies.proofs.state.put_phase.Tie as tie
+use Rattle.state_line.proofs.put_phase.Statement.{statement}
+use Rattle.state_line.proofs.put_phase.Tie as tie
 
 enum-told : tie.Need-enum-told
 enum-told c = search needs

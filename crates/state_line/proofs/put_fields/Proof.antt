@@ -3,11 +3,11 @@ use Rattle.text.specs.TextLaws.{Remains, all-remains, rest-remains, none-remain
 use Prim.Native.Nat.{_≤_, _-_}
 use mathlib.Core.Path.{_≡_, refl}
 use native.Mathlib.Omega.{arith}
-use Rattle.replies.specs.StateTextMirror.{formText}
-use Rattle.replies.specs.ReplyTextLaws.{form-on}
+use Rattle.state_line.specs.StateTextMirror.{formText}
+use Rattle.state_line.specs.StateTextLaws.{form-on}
 use borrow.Author.Needs.{needs}
-use Rattle.replies.proofs.state.put_fields.Statement.{statement}
-use Rattle.replies.proofs.state.put_fields.Tie as tie
+use Rattle.state_line.proofs.put_fields.Statement.{statement}
+use Rattle.state_line.proofs.put_fields.Tie as tie
 
 abbrev Inv-loop : tie.InvT-loop
 Inv-loop text₀ at form values to₀ next₀ i₀ text to next i = (i ≤ length form) × (length text ≡ length text₀) × Remains text₀ at (formText form 0 values) text to (formText (drop i form) next values)

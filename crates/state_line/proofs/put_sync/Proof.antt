@@ -1,6 +1,6 @@
 use borrow.Author.Needs.{needs}
-use Rattle.replies.proofs.state.put_sync.Statement.{statement}
-use Rattle.replies.proofs.state.put_sync.Tie as tie
+use Rattle.state_line.proofs.put_sync.Statement.{statement}
+use Rattle.state_line.proofs.put_sync.Tie as tie
 
 one-if-requires : tie.Need-one-if-requires
 one-if-requires c κs = search needs

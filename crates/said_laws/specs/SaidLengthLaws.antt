@@ -1,0 +1,154 @@
+-- Laws of how long an answer is: a text of 4,096 bytes, as the programs lend it, has room for every answer to a line of the board's and to a request.
+use Prim.Native.Nat.{ℕ, zero, suc, _+_, _*_, _^_, _≤_}
+use mathlib.Core.Path.{_≡_, refl}
+use mathlib.Core.Bool.{Bool, true, false, cond}
+use mathlib.Core.List.{List}
+use native.Mathlib.Omega.{arith}
+use lib.Dec.{ltb}
+use lib.ListN.{length, getD, take, length-append}
+use Rattle.grounds.specs.declared.Ground.{Ground}
+use Rattle.grounds.specs.declared.Verdict.{Verdict}
+use Rattle.grounds.specs.declared.Verdict.the-variants.{Accepted, Refused}
+use Rattle.grounds.specs.Grounds.{number}
+use Rattle.board.specs.declared.Board.{Board}
+use Rattle.board.specs.declared.Place.{Place}
+use Rattle.board.specs.declared.Phase.{Phase}
+use Rattle.board.specs.declared.Phase.the-variants.{Rest, Due, Waiting, Upper}
+use Rattle.board.specs.declared.Chain.{Chain}
+use Rattle.board.specs.declared.Chain.the-variants.{Off, Dumping, Filling}
+use Rattle.board.specs.Board.{makingVerdict}
+use Rattle.port.specs.declared.Outcome.{Outcome}
+use Rattle.port.specs.declared.Outcome.the-variants.{Reply, Refusing}
+use Rattle.bus.specs.declared.Captured.{Captured}
+use Rattle.bus.specs.declared.Captured.the-variants.{Nothing as NoPc, Pc}
+use Rattle.bus.specs.declared.EventOutcome.{EventOutcome}
+use Rattle.bus.specs.declared.EventOutcome.the-variants as event
+use Rattle.bus.specs.declared.BreakpointOutcome.{BreakpointOutcome}
+use Rattle.bus.specs.declared.BreakpointOutcome.the-variants as breakpoint
+use Rattle.bus.specs.Events.{eventOutcome, breakpointOutcome}
+use Rattle.lent.specs.Lent.{fits}
+use Rattle.board_lines.specs.declared.BoardLine.{BoardLine}
+use Rattle.board_lines.specs.declared.BoardLine.the-variants.{Nothing, Make, Memory, Bytes, Packet, Event as EventLine}
+use Rattle.board_lines.specs.declared.BoardLine.the-variants.{EventWithAccess, Breakpoint, Peek, State, Unclear}
+use Rattle.readings.specs.declared.Outcome.{Outcome as Closing}
+use Rattle.readings.specs.declared.Outcome.the-variants.{Value, Complete, BusError, Illegal}
+use Rattle.exchange.specs.declared.Exchanged.{Exchanged}
+use Rattle.exchange.specs.declared.Exchanged.the-variants.{Ended, Refused as RefusedToExchange}
+use Rattle.text.specs.Text.{flagText}
+use Rattle.text.specs.NumberText.{digitsText, widthFrom, width, numberText, decimalText}
+use Rattle.text.specs.RefusalText.{refusedAt}
+use Rattle.text.specs.RequestText.{outcomeText}
+use Rattle.text_laws.specs.ReadBackLaws.{digits-length}
+use Rattle.replies.specs.ReplyText.{packetText, capturedText, eventText, breakpointText, bytesText}
+use Rattle.state_line.specs.StateText.{bitOf, registersText, phaseText, chainText, stateText}
+use Rattle.answers.specs.declared.Bench.{Bench}
+use Rattle.answers.specs.Bench.{start, access}
+use Rattle.answers.specs.Said.{madeText, bytesPutText, peekedText, packetOutcome, said}
+use Rattle.asking.specs.Asking.{exchangedText}
+
+width-most : (base n more k : ℕ) → widthFrom base n more k ≤ k + more
+unfolding widthFrom
+width-most base n zero k = omega arith
+width-most base n (suc more) k = by-test (ltb n (base ^ k)) (width-most base n more (suc k))
+  where
+    by-test : (t : Bool) → widthFrom base n more (suc k) ≤ suc k + more → cond t k (widthFrom base n more (suc k)) ≤ k + suc more
+    by-test true next = omega arith
+    by-test false next = omega arith
+
+number-length : (n : ℕ) → length (numberText n) ≤ 20
+number-length n = omega (arith, digits-length 16 (width 16 n) n, width-most 16 n 19 1)
+
+decimal-length : (n : ℕ) → length (decimalText n) ≤ 20
+decimal-length n = omega (arith, digits-length 10 (width 10 n) n, width-most 10 n 19 1)
+
+refused-length : (g : Ground) (cycle : ℕ) → length (refusedAt g cycle) ≤ 64
+refused-length g cycle = simp length-append (omega (arith, decimal-length (number g), decimal-length cycle))
+
+packet-length : (o : Outcome) → length (packetText o) ≤ 64
+packet-length (Reply reply) = simp length-append (omega (arith, digits-length 16 5 reply))
+packet-length (Refusing ground) = refused-length ground 0
+
+flag-length : (flag : Bool) → length (flagText flag) ≡ 1
+flag-length true = refl
+flag-length false = refl
+
+captured-length : (captured : Captured) → length (capturedText captured) ≤ 16
+captured-length NoPc = omega arith
+captured-length (Pc pc) = simp length-append (omega (arith, digits-length 16 8 pc))
+
+event-length : (o : EventOutcome) → length (eventText o) ≤ 64
+event-length (event.Refused ground) = refused-length ground 0
+event-length (event.Taken seen) =
+    let level = digits-length 16 1 (seen .level) in
+    simp length-append (omega (arith, level, flag-length (seen .halted), flag-length (seen .interrupt), captured-length (seen .captured)))
+
+breakpoint-length : (o : BreakpointOutcome) → length (breakpointText o) ≤ 64
+breakpoint-length (breakpoint.Refused ground) = refused-length ground 0
+breakpoint-length (breakpoint.Taken pressed) = simp length-append (omega (arith, flag-length (pressed .halted), flag-length (pressed .interrupt)))
+
+bytes-length : (m : List ℕ) (from count : ℕ) → length (bytesText m from count) ≡ 2 * count
+bytes-length m from zero = refl
+bytes-length m from (suc count) = simp length-append (omega (arith, digits-length 16 2 (getD m from 0), bytes-length m (suc from) count))
+
+registers-length : (b : Board) → length (registersText b) ≡ 468
+unfolding digitsText registersText
+registers-length b = refl
+
+phase-length : (phase : Phase) → length (phaseText phase) ≤ 40
+phase-length Rest = omega arith
+phase-length (Due command left operands) = simp length-append (omega (arith, number-length left))
+phase-length (Waiting command left address value) = simp length-append (omega (arith, number-length left))
+phase-length (Upper low) = simp length-append (omega (arith, digits-length 16 4 low))
+
+chain-length : (chain : Chain) → length (chainText chain) ≡ 11
+chain-length Off = refl
+chain-length Dumping = refl
+chain-length Filling = refl
+
+state-length : (b : Board) (p : Place) → length (stateText b p) ≤ 1024
+unfolding stateText
+state-length b p =
+    let sync = digits-length 16 1 (bitOf (b .status .sync)) in
+    let pointer = digits-length 16 5 (p .pointer) in
+    let next = digits-length 16 5 (p .next) in
+    simp length-append (omega (arith, registers-length b, sync, phase-length (p .phase), chain-length (p .chain), pointer, next))
+
+made-length : (v : Verdict) → length (madeText v) ≤ 64
+made-length Accepted = omega arith
+made-length (Refused ground) = refused-length ground 0
+
+bytes-put-length : (fitting : Bool) (n : ℕ) → length (bytesPutText fitting n) ≤ 64
+bytes-put-length true n = simp length-append (omega (arith, number-length n))
+bytes-put-length false n = omega arith
+
+peeked-length : (fitting : Bool) (m : List ℕ) (address n : ℕ) → n ≤ 0x400 → length (peekedText fitting m address n) ≤ 4096
+peeked-length true m address n h = simp length-append (omega (arith, bytes-length m address n))
+peeked-length false m address n h = omega arith
+
+-- every answer to a line of the board's, where `peek` shows "N from 1 to 400" bytes
+pub said-length : (line : List ℕ) (asked : BoardLine) (bench : Bench) (m : List ℕ) → ((address count : ℕ) → asked ≡ Peek address count → count ≤ 0x400)
+    → length (said line asked bench m) ≤ 4096
+unfolding said
+said-length line Nothing bench m shown = omega arith
+said-length line (Make w) bench m shown = omega (arith, made-length (makingVerdict w))
+said-length line (Memory n) bench m shown = simp length-append (omega (arith, number-length n))
+said-length line (Bytes address from count) bench m shown = omega (arith, bytes-put-length (fits address count (bench .lent)) count)
+said-length line (Packet word) bench m shown = omega (arith, packet-length (packetOutcome word bench (take (bench .lent) m)))
+said-length line (EventLine pc) bench m shown = omega (arith, event-length (eventOutcome (bench .board) (bench .place) (start pc)))
+said-length line (EventWithAccess pc address attribute lanes) bench m shown =
+    omega (arith, event-length (eventOutcome (bench .board) (bench .place) (access pc address attribute lanes)))
+said-length line Breakpoint bench m shown = omega (arith, breakpoint-length (breakpointOutcome (bench .board) (bench .place)))
+said-length line (Peek address count) bench m shown = peeked-length (fits address count (bench .lent)) m address count (shown address count refl)
+said-length line State bench m shown = omega (arith, state-length (bench .board) (bench .place))
+said-length line Unclear bench m shown = omega arith
+
+-- and to a request
+outcome-length : (o : Closing) → length (outcomeText o) ≤ 14
+outcome-length (Value v) = simp length-append (omega (arith, digits-length 16 8 v))
+outcome-length Complete = omega arith
+outcome-length BusError = omega arith
+outcome-length Illegal = omega arith
+
+pub exchanged-length : (x : Exchanged) → length (exchangedText x) ≤ 4096
+exchanged-length (Ended outcome packets) = simp length-append (omega (arith, outcome-length outcome, decimal-length packets))
+exchanged-length (RefusedToExchange ground) = omega (arith, refused-length ground 0)

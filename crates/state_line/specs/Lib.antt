@@ -1,0 +1,3 @@
+pub mod StateText
+pub mod StateTextMirror
+pub mod StateTextLaws
