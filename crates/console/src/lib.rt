@@ -1,6 +1,10 @@
 // Lines from standard input, and text to standard output.
-ghost use Prim.Native.Nat.{_≤_};
-ghost use lib.ListN.{length};
+ghost use Prim.Native.Nat.{_≤_, min};
+ghost use mathlib.Core.Path.{_≡_};
+ghost use lib.ListN.{length, take};
+ghost use Rattle.console.specs.InputLines.{isLineEnd};
+ghost use Rattle.console.specs.Holding.{held};
+ghost use Rattle.console.specs.LineReading.{CutMeets, NextMeets, unreadOf};
 use libc::STDIN_FILENO;
 use libc::STDOUT_FILENO;
 
@@ -10,15 +14,78 @@ pub struct Unread {
     pub end: usize,
 }
 
+// A line, of which so many bytes are held at the front of the buffer.
 pub enum Input {
-    // The bytes now at the front of the line; of a line too long for it, as many as it holds.
     Line(usize),
-    End,
+    // What came behind the last line end; the input has ended.
+    Last(usize),
 }
 
 pub struct LineTaken {
     pub unread: Unread,
     pub input: Input,
+}
+
+// How many bytes were taken, how many are held of the line, and whether it has ended.
+pub struct Cut {
+    pub taken: usize,
+    pub held: usize,
+    pub ended: bool,
+}
+
+fn is_line_end(byte: u8) -> bool
+    ensures { λ r. ⌜ r ≡ isLineEnd byte ⌝ }
+{
+    if byte == b'\n' {
+        return true;
+    }
+    byte == b'\r'
+}
+
+// Of a line too long for the buffer its front is held, and in the last place the first byte from there on that is no space or tab.
+fn hold_byte(line: &mut [u8], before: usize, byte: u8) -> usize
+    requires { ⌜ before ≤ length (now line) ⌝ }
+    ensures { λ r. ⌜ (r ≤ length (now (line .entry)))
+        × (take r (now (line .exit)) ≡ held (length (now (line .entry))) (take before (now (line .entry))) byte) ⌝ }
+{
+    if before < line.len() {
+        line[before] = byte;
+        return before + 1;
+    }
+    if 0 < before {
+        let last = before - 1;
+        if words::is_gap(line[last]) {
+            line[last] = byte;
+            return before;
+        }
+    }
+    before
+}
+
+// Bytes up to the first line end, behind what is held of the line already.
+fn cut_line(bytes: &[u8], line: &mut [u8], before: usize) -> Cut
+    requires { ⌜ before ≤ length (now line) ⌝ }
+    ensures { λ r. ⌜ CutMeets (now (bytes .entry)) (now (line .entry)) before r (now (line .exit)) ⌝ }
+{
+    let mut held = before;
+    let mut i = 0;
+    while i < bytes.len() {
+        let byte = bytes[i];
+        i += 1;
+        if is_line_end(byte) {
+            return Cut {
+                taken: i,
+                held: held,
+                ended: true,
+            };
+        }
+        held = hold_byte(line, held, byte);
+    }
+    Cut {
+        taken: i,
+        held: held,
+        ended: false,
+    }
 }
 
 fn refill(source: &mut [u8]) -> usize
@@ -28,22 +95,8 @@ fn refill(source: &mut [u8]) -> usize
     io::count(got, source)
 }
 
-// What is left of the source, or what is read anew where nothing is.
-fn look(source: &mut [u8], at: usize, end: usize) -> Unread
-    requires { ⌜ end ≤ length (now source) ⌝ }
-    ensures { λ r. ⌜ r .end ≤ length (now (source .exit)) ⌝ }
-{
-    if at < end {
-        return Unread { at: at, end: end };
-    }
-    Unread {
-        at: 0,
-        end: refill(source),
-    }
-}
-
-fn end_within(end: usize, most: usize) -> usize
-    ensures { λ r. ⌜ r ≤ most ⌝ }
+fn least(end: usize, most: usize) -> usize
+    ensures { λ r. ⌜ r ≡ min end most ⌝ }
 {
     if end <= most {
         return end;
@@ -51,47 +104,49 @@ fn end_within(end: usize, most: usize) -> usize
     most
 }
 
-// The input ended: what was gathered of a last line without its line end, or nothing.
-fn last_line(gathered: usize) -> Input {
-    if gathered == 0 {
-        return Input::End;
+// The next line without its line end. The budget of reads is never used up.
+pub fn next_line(source: &mut [u8], unread: Unread, line: &mut [u8]) -> LineTaken
+    ensures { λ r. ⌜ NextMeets (unreadOf (now (source .entry)) (unread .at) (unread .end)) (r .input)
+        (unreadOf (now (source .exit)) (r .unread .at) (r .unread .end)) (now (line .exit)) ⌝ }
+{
+    let end = least(unread.end, source.len());
+    let at = least(unread.at, end);
+    let first = cut_line(&source[at..end], line, 0);
+    if first.ended {
+        return LineTaken {
+            unread: Unread {
+                at: at + first.taken,
+                end: end,
+            },
+            input: Input::Line(first.held),
+        };
     }
-    Input::Line(gathered)
-}
-
-// The next line without its line end. The budget of bytes is never used up.
-pub fn next_line(source: &mut [u8], unread: Unread, line: &mut [u8]) -> LineTaken {
-    let mut at = unread.at;
-    let mut end = end_within(unread.end, source.len());
-    let mut gathered: usize = 0;
+    let mut held = first.held;
     let mut budget: u64 = 0xFFFFFFFFFFFFFFFF;
     while 0 < budget {
         budget -= 1;
-        let window = look(source, at, end);
-        at = window.at;
-        end = window.end;
-        if end <= at {
+        let got = refill(source);
+        let part = cut_line(&source[..got], line, held);
+        held = part.held;
+        if part.ended {
             return LineTaken {
-                unread: Unread { at: at, end: end },
-                input: last_line(gathered),
+                unread: Unread {
+                    at: part.taken,
+                    end: got,
+                },
+                input: Input::Line(held),
             };
         }
-        let byte = source[at];
-        at += 1;
-        if byte == b'\n' {
+        if got == 0 {
             return LineTaken {
-                unread: Unread { at: at, end: end },
-                input: Input::Line(gathered),
+                unread: Unread { at: 0, end: 0 },
+                input: Input::Last(held),
             };
-        }
-        if gathered < line.len() {
-            line[gathered] = byte;
-            gathered += 1;
         }
     }
     LineTaken {
-        unread: Unread { at: at, end: end },
-        input: Input::End,
+        unread: Unread { at: 0, end: 0 },
+        input: Input::Last(held),
     }
 }
 

@@ -1,7 +1,11 @@
 -- What a line is taken for in each of the desk's languages, what it leaves of the bench and of memory, and what is said to it.
 use Prim.Native.Nat.{ℕ}
+use mathlib.Core.Bool.{Bool, true, false}
 use mathlib.Core.List.{List}
 use lib.ListN.{take}
+use Rattle.common_lines.specs.declared.CommonLine.{CommonLine}
+use Rattle.common_lines.specs.declared.CommonLine.the-variants.{Help, Quit, Other}
+use Rattle.common_lines.specs.CommonLines.{commonLine}
 use Rattle.board_lines.specs.BoardLines.{boardLine}
 use Rattle.talk_lines.specs.declared.TalkLine.the-variants.{Board as BoardAsked, Ask}
 use Rattle.talk_lines.specs.TalkLines.{eitherLine, talkLine}
@@ -11,29 +15,52 @@ use Rattle.answers.specs.declared.Answered.{Answered}
 use Rattle.answers.specs.Said.{said, Answers}
 use Rattle.asking.specs.Asking.{exchanged, exchangeSaid}
 use Rattle.conversation.specs.PodSaid.{podSaid}
+use Rattle.conversation.specs.HelpText.{helpText, byeText}
 use Rattle.conversation.specs.declared.Language.{Language}
 use Rattle.conversation.specs.declared.Language.the-variants.{StandIn, Talk, Both, Pod}
 use Rattle.conversation.specs.declared.Heard.{Heard}
-use Rattle.conversation.specs.declared.Heard.the-variants.{OfBench, OfPod}
+use Rattle.conversation.specs.declared.Heard.the-variants.{OfBench, OfPod, ForHelp, ToQuit}
 
--- the morning's lines are stand_in's and talk's
+-- the program's own lines; the morning's are stand_in's and talk's
+unfoldable pub heardOwn : Language → List ℕ → Heard
+heardOwn StandIn line = OfBench (BoardAsked (boardLine line))
+heardOwn Talk line = OfBench (talkLine line)
+heardOwn Both line = OfBench (eitherLine line)
+heardOwn Pod line = OfPod
+
+-- `help` and `quit` are lines of every program
+abbrev pub heardAs : CommonLine → Language → List ℕ → Heard
+heardAs Help language line = ForHelp language
+heardAs Quit language line = ToQuit
+heardAs Other language line = heardOwn language line
+
 unfoldable pub heard : Language → List ℕ → Heard
-heard StandIn line = OfBench (BoardAsked (boardLine line))
-heard Talk line = OfBench (talkLine line)
-heard Both line = OfBench (eitherLine line)
-heard Pod line = OfPod
+heard language line = heardAs (commonLine line) language line
 
--- what a line leaves; one of the pod's leaves all as it was
+-- what a line leaves; one of the pod's, `help` and `quit` leave all as it was
 unfoldable pub after : List ℕ → Heard → Bench → List ℕ → Left
 after line (OfBench (BoardAsked asked)) bench m = leaves line asked bench m
 after line (OfBench (Ask request)) bench m = overLent (exchanged request) bench m
 after line OfPod bench m = left bench m
+after line (ForHelp language) bench m = left bench m
+after line ToQuit bench m = left bench m
+
+-- "`quit` gets `bye` and ends the program"
+abbrev pub isQuit : CommonLine → Bool
+isQuit Help = false
+isQuit Quit = true
+isQuit Other = false
+
+abbrev pub quits : List ℕ → Bool
+quits line = isQuit (commonLine line)
 
 -- what is said to it
 unfoldable pub saidTo : List ℕ → Heard → Bench → List ℕ → List ℕ
 saidTo line (OfBench (BoardAsked asked)) bench m = said line asked bench m
 saidTo line (OfBench (Ask request)) bench m = exchangeSaid request bench (take (bench .lent) m)
 saidTo line OfPod bench m = podSaid line
+saidTo line (ForHelp language) bench m = helpText language
+saidTo line ToQuit bench m = byeText
 
 -- the promise of a line: what it leaves, and each byte of its answer
 abbrev pub HeardMeets : List ℕ → Heard → Bench → List ℕ → List ℕ → Answered → List ℕ → List ℕ → Type 0

@@ -1,13 +1,18 @@
 // A conversation: a line answered in one of the desk's languages, and line after line to the end of the input.
 ghost use mathlib.Core.Path.{_≡_};
+ghost use Prim.Native.Nat.{_≤_, _<_};
+ghost use lib.ListN.{length, take};
 ghost use Rattle.conversation.specs.declared.Heard.the-variants.{OfBench};
-ghost use Rattle.conversation.specs.Heard.{heard, HeardMeets};
+ghost use Rattle.conversation.specs.Heard.{heardOwn, heard, HeardMeets, quits};
+ghost use Rattle.conversation.specs.Course.{opening, ServedMeets, CourseMeets};
 use answers::Answered;
 use answers::Bench;
+use common_lines::CommonLine;
 use console::Input;
 use console::Unread;
 use talk_lines::TalkLine;
 
+mod help;
 mod pod;
 
 // Which lines are taken.
@@ -26,16 +31,34 @@ pub enum Language {
 pub enum Heard {
     OfBench(TalkLine),
     OfPod,
+    ForHelp(Language),
+    ToQuit,
 }
 
-fn hear(language: Language, line: &[u8]) -> Heard
-    ensures { λ r. ⌜ r ≡ heard language (now (line .entry)) ⌝ }
+// The bench after a line, and whether it was the last.
+pub struct Served {
+    pub bench: Bench,
+    pub over: bool,
+}
+
+fn hear_own(language: Language, line: &[u8]) -> Heard
+    ensures { λ r. ⌜ r ≡ heardOwn language (now (line .entry)) ⌝ }
 {
     match language {
         Language::StandIn => Heard::OfBench(TalkLine::Board(board_lines::read_line(line))),
         Language::Talk => Heard::OfBench(talk_lines::read_talk_line(line)),
         Language::Both => Heard::OfBench(talk_lines::read_either_line(line)),
         Language::Pod => Heard::OfPod,
+    }
+}
+
+fn hear(language: Language, line: &[u8]) -> Heard
+    ensures { λ r. ⌜ r ≡ heard language (now (line .entry)) ⌝ }
+{
+    match common_lines::read_line(line) {
+        CommonLine::Help => Heard::ForHelp(language),
+        CommonLine::Quit => Heard::ToQuit,
+        CommonLine::Other => hear_own(language, line),
     }
 }
 
@@ -73,44 +96,80 @@ pub fn answer(
             bench: bench,
             end: pod::answer(line, text),
         },
+        Heard::ForHelp(asked) => Answered {
+            bench: bench,
+            end: help::put_help(asked, text),
+        },
+        Heard::ToQuit => Answered {
+            bench: bench,
+            end: text::put_text(text, 0, b"bye"),
+        },
     }
 }
 
-// One line's answer is written; the bench after it.
+fn is_quit(line: &[u8]) -> bool
+    ensures { λ r. ⌜ r ≡ quits (now (line .entry)) ⌝ }
+{
+    match common_lines::read_line(line) {
+        CommonLine::Help => false,
+        CommonLine::Quit => true,
+        CommonLine::Other => false,
+    }
+}
+
+// One line's answer is written.
 fn serve(
     language: Language,
     line: &[u8],
     bench: Bench,
     memory: &mut [u8],
     text: &mut [u8],
-) -> Bench {
+) -> Served
+    ensures { λ r. ⌜ ServedMeets language (now (line .entry)) bench (now (memory .entry)) r (now (memory .exit)) ⌝ }
+{
+    let over = is_quit(line);
     let answered = answer(language, line, bench, memory, text);
     let end = answered.end;
-    let after = answered.bench;
+    let next = answered.bench;
     if 0 < end {
         console::say(text, end);
-        return after;
+        return Served {
+            bench: next,
+            over: over,
+        };
     }
-    after
+    Served {
+        bench: next,
+        over: over,
+    }
 }
 
-// The line at the front of the buffer.
+// The line of so many bytes at the front of the buffer.
 fn serve_front(
     language: Language,
     line: &[u8],
-    length: usize,
+    held: usize,
     bench: Bench,
     memory: &mut [u8],
     text: &mut [u8],
-) -> Bench {
-    if length <= line.len() {
-        return serve(language, &line[..length], bench, memory, text);
-    }
-    bench
+) -> Served
+    requires { ⌜ held ≤ length (now line) ⌝ }
+    ensures { λ r. ⌜ ServedMeets language (take held (now (line .entry))) bench (now (memory .entry)) r (now (memory .exit)) ⌝ }
+{
+    serve(language, &line[..held], bench, memory, text)
 }
 
-// Line after line, to the end of the input. The budget of lines is never used up.
-fn run(language: Language, source: &mut [u8], line: &mut [u8], text: &mut [u8], memory: &mut [u8]) {
+// Line after line, to `quit` or the end of the input. The budget of lines is never used up.
+fn run(
+    language: Language,
+    source: &mut [u8],
+    line: &mut [u8],
+    text: &mut [u8],
+    memory: &mut [u8],
+) -> Bench
+    requires { ⌜ 4096 < length (now line) ⌝ }
+    ensures { λ r. ⌜ CourseMeets language opening (now (memory .entry)) r (now (memory .exit)) ⌝ }
+{
     let mut bench = answers::opened();
     let mut unread = Unread { at: 0, end: 0 };
     let mut budget: u64 = 0xFFFFFFFFFFFFFFFF;
@@ -119,11 +178,21 @@ fn run(language: Language, source: &mut [u8], line: &mut [u8], text: &mut [u8], 
         let taken = console::next_line(source, unread, line);
         unread = taken.unread;
         let input = taken.input;
-        let Input::Line(length) = input else {
-            return;
-        };
-        bench = serve_front(language, line, length, bench, memory, text);
+        match input {
+            Input::Line(held) => {
+                let served = serve_front(language, line, held, bench, memory, text);
+                bench = served.bench;
+                if served.over {
+                    return bench;
+                }
+            }
+            Input::Last(held) => {
+                let served = serve_front(language, line, held, bench, memory, text);
+                return served.bench;
+            }
+        }
     }
+    bench
 }
 
 // The lines of standard input, each answered before the next is read.

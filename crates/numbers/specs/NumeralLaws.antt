@@ -7,6 +7,7 @@ use mathlib.Core.List.{List, [], _∷_, _++_, map}
 use lib.Dec.{leb, eqb}
 use lib.ListN.{length, take, drop, length-map}
 use borrow.Author.Tests.{le-leb, lt-leb, leb-true, leb-false, eqb-true}
+use Rattle.laws.specs.TestLaws.{both-hold}
 use Rattle.words.specs.LineWords.{ascii, lower, same}
 use Rattle.words.specs.CaseLaws.{by-case, same-lower}
 use Rattle.numbers.specs.Numbers.{digit, isDigit, allDigits, valueFrom, prefixLength, numeral, byteAt}
@@ -74,6 +75,15 @@ digit-is-no-x byte e = by-test (eqb (lower byte) 120) refl
     by-test : (t : Bool) → eqb (lower byte) 120 ≡ t → t ≡ false
     by-test true x = absurd (omega (arith, leb-true (digit byte) 15 e, lower-digit byte, ap digit (eqb-true (lower byte) 120 x)))
     by-test false x = refl
+
+-- digits alone have no prefix
+pub digits-have-no-prefix : (word : List ℕ) → allDigits word ≡ true → prefixLength word ≡ 0
+unfolding prefixLength
+digits-have-no-prefix [] h = refl
+digits-have-no-prefix (byte ∷ []) h = rw and-false
+digits-have-no-prefix (byte ∷ other ∷ word) h =
+    let rest = both-hold (isDigit byte) (allDigits (other ∷ word)) h .1 in
+    rw (digit-is-no-x other (both-hold (isDigit other) (allDigits word) rest .0), and-false)
 
 zero-is-no-prefix : (byte : ℕ) (word : List ℕ) → isDigit byte ≡ true → prefixLength (48 ∷ byte ∷ word) ≡ 0
 unfolding prefixLength

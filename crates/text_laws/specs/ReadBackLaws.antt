@@ -8,9 +8,10 @@ use native.Mathlib.Nat.{div-div-eq-div-mul, div-add-mod, mod-one, mod-lt, mod-eq
 use lib.Dec.{ltb, leb}
 use lib.ListN.{length}
 use borrow.Author.Tests.{ltb-true, ltb-false, le-leb}
-use Rattle.numbers.specs.Numbers.{digit, allDigits, valueFrom, value, numeral}
+use Rattle.numbers.specs.Numbers.{digit, allDigits, valueFrom, prefixLength, value, numeral}
 use Rattle.numbers.specs.declared.Numeral.the-variants.{Value}
 use Rattle.numbers.specs.NumberLaws.{within, above}
+use Rattle.numbers.specs.NumeralLaws.{digits-have-no-prefix}
 use Rattle.text.specs.NumberText.{digitText, digitsText, widthFrom, width, hexText, numberText, decimalText}
 use Rattle.text.specs.NumberTextLaws.{width-holds}
 
@@ -73,18 +74,6 @@ value-read : (before : ℕ) (word : List ℕ) → valueFrom before word ≡ read
 value-read before [] = refl
 value-read before (byte ∷ word) = value-read (before * 16 + digit byte) word
 
--- at its width
-pub hex-back : (k n : ℕ) → n < 16 ^ k → value (hexText k n) ≡ n
-hex-back k n h = value-read 0 (hexText k n) ∙ digits-back digit 16 (omega arith) hex-worth k n h
-
--- without one: 20 digits hold every number of 64 bits
-pub number-back : (n : ℕ) → n < 16 ^ 20 → value (numberText n) ≡ n
-number-back n h = hex-back (width 16 n) n (width-holds 16 n 19 1 h)
-
-pub decimal-back : (n : ℕ) → n < 10 ^ 20 → decimalValue (decimalText n) ≡ n
-decimal-back n h = digits-back decimalWorth 10 (omega arith) decimal-worth (width 10 n) n (width-holds 10 n 19 1 h)
-
--- and as a line's number is read, where it has a place of 32 bits
 all-digits : (k n : ℕ) → allDigits (hexText k n) ≡ true
 unfolding digitsText
 all-digits zero n = refl
@@ -94,17 +83,33 @@ all-digits (suc k) n =
     let e : leb (digit (digitText d)) 15 ≡ true = rw (hex-worth d small) (le-leb d 15 (omega arith)) in
     rw (e) (all-digits k n)
 
+-- what is written has no prefix
+plain : (k n : ℕ) → prefixLength (hexText k n) ≡ 0
+plain k n = digits-have-no-prefix (hexText k n) (all-digits k n)
+
+-- at its width
+pub hex-back : (k n : ℕ) → n < 16 ^ k → value (hexText k n) ≡ n
+hex-back k n h = rw (plain k n) (value-read 0 (hexText k n) ∙ digits-back digit 16 (omega arith) hex-worth k n h)
+
+-- without one: 20 digits hold every number of 64 bits
+pub number-back : (n : ℕ) → n < 16 ^ 20 → value (numberText n) ≡ n
+number-back n h = hex-back (width 16 n) n (width-holds 16 n 19 1 h)
+
+pub decimal-back : (n : ℕ) → n < 10 ^ 20 → decimalValue (decimalText n) ≡ n
+decimal-back n h = digits-back decimalWorth 10 (omega arith) decimal-worth (width 10 n) n (width-holds 10 n 19 1 h)
+
 -- so many digits are so many bytes
 pub digits-length : (base k n : ℕ) → length (digitsText base k n) ≡ k
 unfolding digitsText
 digits-length base zero n = refl
 digits-length base (suc k) n = ap suc (digits-length base k n)
 
+-- and as a line's number is read, where it has a place of 32 bits
 pub hex-numeral : (k n : ℕ) → 0 < k → n < 16 ^ k → n ≤ 0xFFFFFFFF → numeral (hexText k n) ≡ Value n
 unfolding numeral
 hex-numeral k n some h fits =
     let one : 1 ≤ length (hexText k n) = omega (arith, digits-length 16 k n) in
-    rw (le-leb 1 (length (hexText k n)) one, all-digits k n, hex-back k n h, le-leb n 0xFFFFFFFF fits)
+    rw (hex-back k n h, plain k n, le-leb 1 (length (hexText k n)) one, all-digits k n, le-leb n 0xFFFFFFFF fits)
 
 width-some : (base n more k : ℕ) → 0 < k → 0 < widthFrom base n more k
 unfolding widthFrom

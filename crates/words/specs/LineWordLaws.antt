@@ -5,11 +5,12 @@ use native.Mathlib.Numerals.{add-one}
 use mathlib.Core.Path.{_≡_, refl, ap, _∙_}
 use mathlib.Core.Bool.{Bool, true, false, cond, _&&_, and-false}
 use mathlib.Core.List.{List, [], _∷_, map}
-use lib.Dec.{eqb}
+use lib.Dec.{leb, eqb}
 use lib.ListN.{length, getD, take, drop, length-drop, length-map, drop-of-length-le}
 use lib.Seq.{drop-cons, drop-drop}
-use borrow.Author.Tests.{eq-eqb, ne-eqb, eqb-true}
-use Rattle.words.specs.LineWords.{isGap, isSilent, joined, parts, full, words, wordsFrom, gapLength, wordLength, lastEnd, lower, same}
+use borrow.Author.Tests.{leb-true, eq-eqb, ne-eqb, eqb-true}
+use Rattle.words.specs.declared.LineKind.the-variants.{Silent, Clear, TooLong}
+use Rattle.words.specs.LineWords.{isGap, isSilent, kindOf, joined, parts, full, words, wordsFrom, gapLength, wordLength, lastEnd, lower, same}
 
 -- the line from a place on: the byte there, and the line from the next place on
 pub from-here : (line : List ℕ) (i : ℕ) → i < length line → drop i line ≡ getD line i 0 ∷ drop (i + 1) line
@@ -217,3 +218,13 @@ silent-first line start p h =
     let here : start ≡ gapLength line = omega arith in
     let word = gap-ends line (omega arith) in
     silent-skip line ∙ rw (from-here line (gapLength line) (omega arith), word, here)
+
+-- a line that is clear has room in a buffer of 4,096 bytes
+pub clear-short : (line : List ℕ) → kindOf line ≡ Clear → length line ≤ 4096
+unfolding kindOf
+clear-short line e = by-test (isSilent line) (leb (length line) 4096) refl e
+  where
+    by-test : (t u : Bool) → leb (length line) 4096 ≡ u → cond t Silent (cond u Clear TooLong) ≡ Clear → length line ≤ 4096
+    by-test true u p e = let z : _≡_ {A = ℕ} 0 1 = cc in omega arith
+    by-test false true p e = leb-true (length line) 4096 p
+    by-test false false p e = let z : _≡_ {A = ℕ} 0 1 = cc in omega arith

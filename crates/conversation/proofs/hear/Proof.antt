@@ -3,55 +3,42 @@ use borrow.Author.Needs.{needs}
 use Rattle.conversation.proofs.hear.Statement.{statement}
 use Rattle.conversation.proofs.hear.Tie as tie
 
-enum-told : tie.Need-enum-told
-enum-told c = search needs
-
 read-line-requires : tie.Need-read-line-requires
 read-line-requires c κs = search needs
+
+enum-told : tie.Need-enum-told
+enum-told c = search needs
 
 enum-told-2 : tie.Need-enum-told-2
 enum-told-2 c = search needs
 
-read-talk-line-requires : tie.Need-read-talk-line-requires
-read-talk-line-requires c κs = search needs
-
 enum-told-3 : tie.Need-enum-told-3
 enum-told-3 c = search needs
 
-read-either-line-requires : tie.Need-read-either-line-requires
-read-either-line-requires c κs = search needs
-
-enum-told-4 : tie.Need-enum-told-4
-enum-told-4 c = search needs
+hear-own-requires : tie.Need-hear-own-requires
+hear-own-requires c κs = search needs
 
 returns : tie.Need-returns
 unfolding heard
-returns c = rw (c .before .enum-told .given .1, c .read-line .ensures)
+returns c = rw (← c .before .before .read-line .ensures, c .enum-told .given .1)
 
 returns-2 : tie.Need-returns-2
 unfolding heard
-returns-2 c = rw (c .before .enum-told2 .given .1, c .read-talk-line .ensures)
+returns-2 c = rw (← c .before .before .read-line .ensures, c .enum-told2 .given .1)
 
 returns-3 : tie.Need-returns-3
 unfolding heard
-returns-3 c = rw (c .before .enum-told3 .given .1, c .read-either-line .ensures)
-
-returns-4 : tie.Need-returns-4
-unfolding heard
-returns-4 c = search needs
+returns-3 c = rw (← c .before .before .before .read-line .ensures, c .before .enum-told3 .given .1, ← c .hear-own .ensures)
 
 pub hear-spec : {M : Type 1} → statement M
 hear-spec =
     tie.close
     (tie.spec
-    enum-told
     read-line-requires
+    enum-told
     enum-told-2
-    read-talk-line-requires
     enum-told-3
-    read-either-line-requires
-    enum-told-4
+    hear-own-requires
     returns
     returns-2
-    returns-3
-    returns-4)
+    returns-3)

@@ -1,21 +1,26 @@
+use Prim.Native.Nat.{_<_, _≤_}
 use lib.ListN.{length}
-use mathlib.Core.Path.{_≡_, _∙_}
-use borrow.Author.Needs.{needs}
+use mathlib.Core.Path.{_≡_, refl, _∙_}
 use native.Mathlib.Omega.{arith}
+use Rattle.conversation.specs.Course.{opening}
+use Rattle.conversation.specs.CourseLaws.{Came, comes-to-begin, line-comes, quit-comes, last-comes, none-comes}
+use borrow.Author.Needs.{needs}
 use Rattle.conversation.proofs.run.Statement.{statement}
 use Rattle.conversation.proofs.run.Tie as tie
 
 abbrev Inv-loop : tie.InvT-loop
-Inv-loop language₀ source₀ line₀ text₀ memory₀ bench₀ unread₀ budget₀ source line text memory bench unread budget = (length source ≡ length source₀) × (length line ≡ length line₀) × (length text ≡ length text₀) × (length memory ≡ length memory₀)
+Inv-loop language source₀ line₀ text₀ memory₀ bench₀ unread₀ budget₀ source line text memory bench unread budget =
+    (length source ≡ length source₀) × (length line ≡ length line₀) × (length text ≡ length text₀) × (length memory ≡ length memory₀)
+    × Came language opening memory₀ bench memory
 
 abbrev μ-loop : tie.MeasureT-loop
-μ-loop language₀ source₀ line₀ text₀ memory₀ bench₀ unread₀ budget₀ source line text memory bench unread budget = budget
+μ-loop language source₀ line₀ text₀ memory₀ bench₀ unread₀ budget₀ source line text memory bench unread budget = budget
 
 opened-requires : tie.Need-opened-requires Inv-loop μ-loop
 opened-requires c κs = search needs
 
 loop-holds : tie.Need-loop-holds Inv-loop μ-loop
-loop-holds c = search needs
+loop-holds c = (refl, refl, refl, refl, rw (c .opened .ensures) (comes-to-begin (c .before .before .before .before .before .args .language) opening (c .before .before .before .before .before .args .memory .now)))
 
 sub-budget : tie.Need-sub-budget Inv-loop μ-loop
 sub-budget c = search needs
@@ -26,53 +31,117 @@ next-line-requires c κs = search needs
 enum-known-input : tie.Need-enum-known-input Inv-loop μ-loop
 enum-known-input c = search needs
 
-enum-told : tie.Need-enum-told Inv-loop μ-loop
-enum-told c = search needs
+serve-front-requires : tie.Need-serve-front-requires Inv-loop μ-loop
+serve-front-requires c κs = (rw (c .before .before .before .before .input .given .1) at (c .before .before .before .before .before .before .before .before .before .before .before .next-line .ensures)) .within
 
 same-length : tie.Need-same-length Inv-loop μ-loop
-same-length c = search needs
+same-length c =
+    c .before .before .before .before .before .before .before .before .before .before .before .before .before .before .before .before .before .before .next-line .kept .0
+    ∙ c .before .before .before .before .before .before .before .before .before .before .before .before .before .before .before .before .before .before .before .before .before .before .loop .inv .0
 
 same-length-2 : tie.Need-same-length-2 Inv-loop μ-loop
-same-length-2 c = search needs
+same-length-2 c =
+    c .before .before .before .before .before .before .before .before .before .before .before .before .before .before .before .before .before .before .next-line .kept .1 .1 .0
+    ∙ c .before .before .before .before .before .before .before .before .before .before .before .before .before .before .before .before .before .before .before .before .before .before .loop .inv .1
 
 same-length-3 : tie.Need-same-length-3 Inv-loop μ-loop
-same-length-3 c = search needs
+same-length-3 c = c .before .before .before .before .before .before .serve-front .kept .1 .1 .1 .1 .1 .0 ∙ c .before .before .before .before .before .before .before .before .before .before .before .before .before .before .before .before .before .before .before .before .before .before .loop .inv .2
 
 same-length-4 : tie.Need-same-length-4 Inv-loop μ-loop
-same-length-4 c = search needs
+same-length-4 c = c .before .before .before .before .before .before .serve-front .kept .1 .1 .1 .1 .0 ∙ c .before .before .before .before .before .before .before .before .before .before .before .before .before .before .before .before .before .before .before .before .before .before .loop .inv .3
 
 returns : tie.Need-returns Inv-loop μ-loop
-returns c = search needs
-
-serve-front-requires : tie.Need-serve-front-requires Inv-loop μ-loop
-serve-front-requires c κs = search needs
+returns c =
+    quit-comes (c .before .before .before .before .before .before .before .before .before .before .before .before .before .before .before .before .before .before .before .before .before .before .before .before .before .before .before .before .args .language) opening
+    (c .before .before .before .before .before .before .before .before .before .before .before .before .before .before .before .before .before .before .before .before .before .before .before .before .before .before .before .before .args .memory .now)
+    (c .before .before .before .before .before .before .before .before .before .before .before .before .before .before .before .before .before .before .before .before .before .before .loop .bench)
+    (c .before .before .before .before .before .before .before .before .before .before .before .before .before .before .before .before .before .before .before .before .before .before .loop .memory)
+    (c .before .before .before .before .before .before .before .before .before .before .before .before .before .before .before .before .before .before .before .before .before .before .loop .inv .4)
+    (omega (
+      arith,
+      c .before .before .before .before .before .before .before .before .before .before .before .before .before .before .before .before .before .before .before .before .before .before .before .before .before .before .before .before .pre,
+      c .before .before .before .before .before .before .before .before .before .before .before .before .before .before .before .before .before .before .before .before .before .before .loop .inv .1,
+      c .before .before .before .before .before .before .before .before .before .before .before .before .before .before .before .before .before .before .next-line .kept .1 .1 .0,
+    )) (c .before .before .before .before .before .before .serve-front .ensures) (rw
+    (c .before .before .before .before .before .before .before .before .before .before .before .input .given .1) at (c .before .before .before .before .before .before .before .before .before .before .before .before .before .before .before .before .before .before .next-line .ensures)) (c .if1 .taken)
 
 loop-less : tie.Need-loop-less Inv-loop μ-loop
-loop-less c = omega (arith, c .before .before .before .before .before .before .before .before .before .before .before .before .before .before .before .before .before .before .before .loop-test .taken)
+loop-less c = omega (arith, c .before .before .before .before .before .before .before .before .before .before .before .before .before .before .before .before .before .before .before .before .before .loop-test .taken)
 
 loop-again : tie.Need-loop-again Inv-loop μ-loop
-loop-again c =
-    let same = c .before .before .before .before .before .before .before .before .before .before .before .before .before .before .before .before .before .before .before .before .loop .inv in (
-      c .before .before .before .before .before .before .before .before .before .before .before .before .before .before .before .before .next-line .kept .0 ∙ same .0,
-      c .before .before .before .before .before .before .before .before .before .before .before .before .before .before .before .before .next-line .kept .1 .1 .0 ∙ same .1,
-      c .before .before .before .before .serve-front .kept .1 .1 .1 .1 .1 .0 ∙ same .2,
-      c .before .before .before .before .serve-front .kept .1 .1 .1 .1 .0 ∙ same .3,
-    )
+loop-again c = (
+  c .before .before .before .before .before .before .before .before .before .before .before .before .before .before .before .before .before .before .next-line .kept .0
+      ∙ c .before .before .before .before .before .before .before .before .before .before .before .before .before .before .before .before .before .before .before .before .before .before .loop .inv .0,
+  c .before .before .before .before .before .before .before .before .before .before .before .before .before .before .before .before .before .before .next-line .kept .1 .1 .0
+      ∙ c .before .before .before .before .before .before .before .before .before .before .before .before .before .before .before .before .before .before .before .before .before .before .loop .inv .1,
+  c .before .before .before .before .before .before .serve-front .kept .1 .1 .1 .1 .1 .0 ∙ c .before .before .before .before .before .before .before .before .before .before .before .before .before .before .before .before .before .before .before .before .before .before .loop .inv .2,
+  c .before .before .before .before .before .before .serve-front .kept .1 .1 .1 .1 .0 ∙ c .before .before .before .before .before .before .before .before .before .before .before .before .before .before .before .before .before .before .before .before .before .before .loop .inv .3,
+  line-comes (c .before .before .before .before .before .before .before .before .before .before .before .before .before .before .before .before .before .before .before .before .before .before .before .before .before .before .before .before .args .language) opening
+      (c .before .before .before .before .before .before .before .before .before .before .before .before .before .before .before .before .before .before .before .before .before .before .before .before .before .before .before .before .args .memory .now)
+      (c .before .before .before .before .before .before .before .before .before .before .before .before .before .before .before .before .before .before .before .before .before .before .loop .bench)
+      (c .before .before .before .before .before .before .before .before .before .before .before .before .before .before .before .before .before .before .before .before .before .before .loop .memory)
+      (c .before .before .before .before .before .before .before .before .before .before .before .before .before .before .before .before .before .before .before .before .before .before .loop .inv .4)
+      (omega (
+        arith,
+        c .before .before .before .before .before .before .before .before .before .before .before .before .before .before .before .before .before .before .before .before .before .before .before .before .before .before .before .before .pre,
+        c .before .before .before .before .before .before .before .before .before .before .before .before .before .before .before .before .before .before .before .before .before .before .loop .inv .1,
+        c .before .before .before .before .before .before .before .before .before .before .before .before .before .before .before .before .before .before .next-line .kept .1 .1 .0,
+      )) (c .before .before .before .before .before .before .serve-front .ensures) (rw
+      (c .before .before .before .before .before .before .before .before .before .before .before .input .given .1) at
+      (c .before .before .before .before .before .before .before .before .before .before .before .before .before .before .before .before .before .before .next-line .ensures)) (c .if1 .left),
+)
+
+enum-known-input-2 : tie.Need-enum-known-input-2 Inv-loop μ-loop
+enum-known-input-2 c = search needs
+
+serve-front-requires-2 : tie.Need-serve-front-requires-2 Inv-loop μ-loop
+serve-front-requires-2 c κs = (rw (c .before .before .before .before .input2 .given .1) at (c .before .before .before .before .before .before .before .before .before .before .before .next-line .ensures)) .within
 
 same-length-5 : tie.Need-same-length-5 Inv-loop μ-loop
-same-length-5 c = search needs
+same-length-5 c =
+    c .before .before .before .before .before .before .before .before .before .before .before .before .before .before .before .before .before .next-line .kept .0
+    ∙ c .before .before .before .before .before .before .before .before .before .before .before .before .before .before .before .before .before .before .before .before .before .loop .inv .0
 
 same-length-6 : tie.Need-same-length-6 Inv-loop μ-loop
-same-length-6 c = search needs
+same-length-6 c =
+    c .before .before .before .before .before .before .before .before .before .before .before .before .before .before .before .before .before .next-line .kept .1 .1 .0
+    ∙ c .before .before .before .before .before .before .before .before .before .before .before .before .before .before .before .before .before .before .before .before .before .loop .inv .1
 
 same-length-7 : tie.Need-same-length-7 Inv-loop μ-loop
-same-length-7 c = search needs
+same-length-7 c = c .before .before .before .before .before .serve-front2 .kept .1 .1 .1 .1 .1 .0 ∙ c .before .before .before .before .before .before .before .before .before .before .before .before .before .before .before .before .before .before .before .before .before .loop .inv .2
 
 same-length-8 : tie.Need-same-length-8 Inv-loop μ-loop
-same-length-8 c = search needs
+same-length-8 c = c .before .before .before .before .before .serve-front2 .kept .1 .1 .1 .1 .0 ∙ c .before .before .before .before .before .before .before .before .before .before .before .before .before .before .before .before .before .before .before .before .before .loop .inv .3
 
 returns-2 : tie.Need-returns-2 Inv-loop μ-loop
-returns-2 c = search needs
+returns-2 c =
+    last-comes (c .before .before .before .before .before .before .before .before .before .before .before .before .before .before .before .before .before .before .before .before .before .before .before .before .before .before .before .args .language) opening
+    (c .before .before .before .before .before .before .before .before .before .before .before .before .before .before .before .before .before .before .before .before .before .before .before .before .before .before .before .args .memory .now)
+    (c .before .before .before .before .before .before .before .before .before .before .before .before .before .before .before .before .before .before .before .before .before .loop .bench)
+    (c .before .before .before .before .before .before .before .before .before .before .before .before .before .before .before .before .before .before .before .before .before .loop .memory)
+    (c .before .before .before .before .before .before .before .before .before .before .before .before .before .before .before .before .before .before .before .before .before .loop .inv .4)
+    (omega (
+      arith,
+      c .before .before .before .before .before .before .before .before .before .before .before .before .before .before .before .before .before .before .before .before .before .before .before .before .before .before .before .pre,
+      c .before .before .before .before .before .before .before .before .before .before .before .before .before .before .before .before .before .before .before .before .before .loop .inv .1,
+      c .before .before .before .before .before .before .before .before .before .before .before .before .before .before .before .before .before .next-line .kept .1 .1 .0,
+    )) (c .before .before .before .before .before .serve-front2 .ensures) (rw
+    (c .before .before .before .before .before .before .before .before .before .before .input2 .given .1) at (c .before .before .before .before .before .before .before .before .before .before .before .before .before .before .before .before .before .next-line .ensures))
+
+same-length-9 : tie.Need-same-length-9 Inv-loop μ-loop
+same-length-9 c = search needs
+
+same-length-10 : tie.Need-same-length-10 Inv-loop μ-loop
+same-length-10 c = search needs
+
+same-length-11 : tie.Need-same-length-11 Inv-loop μ-loop
+same-length-11 c = search needs
+
+same-length-12 : tie.Need-same-length-12 Inv-loop μ-loop
+same-length-12 c = search needs
+
+returns-3 : tie.Need-returns-3 Inv-loop μ-loop
+returns-3 c = none-comes (c .before .before .before .before .before .before .before .args .language) opening (c .before .before .before .before .before .before .before .args .memory .now) (c .before .loop .bench) (c .before .loop .memory) (c .before .loop .inv .4)
 
 pub run-spec : {M : Type 1} → statement M
 run-spec =
@@ -85,17 +154,23 @@ run-spec =
     sub-budget
     next-line-requires
     enum-known-input
-    enum-told
+    serve-front-requires
     same-length
     same-length-2
     same-length-3
     same-length-4
     returns
-    serve-front-requires
     loop-less
     loop-again
+    enum-known-input-2
+    serve-front-requires-2
     same-length-5
     same-length-6
     same-length-7
     same-length-8
-    returns-2)
+    returns-2
+    same-length-9
+    same-length-10
+    same-length-11
+    same-length-12
+    returns-3)

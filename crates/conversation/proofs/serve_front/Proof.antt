@@ -5,7 +5,7 @@ use Rattle.conversation.proofs.serve_front.Statement.{statement}
 use Rattle.conversation.proofs.serve_front.Tie as tie
 
 slice-aggregate-serve : tie.Need-slice-aggregate-serve
-slice-aggregate-serve c = simp length-take (omega (arith, c .before .if1 .taken))
+slice-aggregate-serve c = simp length-take (omega (arith, c .before .before .before .before .pre))
 
 serve-requires : tie.Need-serve-requires
 serve-requires c κs = search needs
@@ -17,12 +17,8 @@ same-length-2 : tie.Need-same-length-2
 same-length-2 c = search needs
 
 returns : tie.Need-returns
-returns c = search needs
-
-returns-2 : tie.Need-returns-2
-returns-2 c = search needs
+returns c = c .before .before .before .before .serve .ensures
 
 pub serve-front-spec : {M : Type 1} → statement M
 serve-front-spec =
-    tie.close
-    (tie.spec slice-aggregate-serve serve-requires same-length same-length-2 returns returns-2)
+    tie.close (tie.spec slice-aggregate-serve serve-requires same-length same-length-2 returns)

@@ -1,0 +1,3 @@
+pub mod CommonLines
+pub mod CommonLinesUnique
+pub mod CommonLineExamples

@@ -1,0 +1,61 @@
+use mathlib.Core.Path.{sym, _∙_}
+use native.Mathlib.Omega.{arith}
+use Rattle.console.specs.HoldingLaws.{hold-room, hold-gap, hold-none, hold-nothing}
+use borrow.Author.Needs.{needs}
+use Rattle.console.proofs.hold_byte.Statement.{statement}
+use Rattle.console.proofs.hold_byte.Tie as tie
+
+slice-write-line : tie.Need-slice-write-line
+slice-write-line c = search needs
+
+add-result : tie.Need-add-result
+add-result c = search needs
+
+same-length : tie.Need-same-length
+same-length c = search needs
+
+returns : tie.Need-returns
+returns c = (omega arith, hold-room (c .before .before .args .line .now) (c .before .before .args .before) (c .before .before .args .byte) (c .if1 .taken))
+
+sub-last : tie.Need-sub-last
+sub-last c = search needs
+
+slice-read-is-gap : tie.Need-slice-read-is-gap
+slice-read-is-gap c = search needs
+
+is-gap-requires : tie.Need-is-gap-requires
+is-gap-requires c κs = search needs
+
+slice-write-line-2 : tie.Need-slice-write-line-2
+slice-write-line-2 c = search needs
+
+same-length-2 : tie.Need-same-length-2
+same-length-2 c = search needs
+
+returns-2 : tie.Need-returns-2
+returns-2 c =
+    (omega arith, hold-gap (c .before .before .before .before .before .before .args .line .now) (c .before .before .before .before .before .before .args .before) (c .before .before .before .before .before .before .args .byte) (omega arith) (sym (c .before .is-gap .ensures) ∙ c .if3 .taken))
+
+returns-3 : tie.Need-returns-3
+returns-3 c =
+    (omega arith, hold-none (c .before .before .before .before .before .before .args .line .now) (c .before .before .before .before .before .before .args .before) (c .before .before .before .before .before .before .args .byte) (omega arith) (sym (c .before .is-gap .ensures) ∙ c .if3 .left))
+
+returns-4 : tie.Need-returns-4
+returns-4 c = (omega arith, hold-nothing (c .before .before .before .args .line .now) (c .before .before .before .args .before) (c .before .before .before .args .byte) (omega arith) (omega arith))
+
+pub hold-byte-spec : {M : Type 1} → statement M
+hold-byte-spec =
+    tie.close
+    (tie.spec
+    slice-write-line
+    add-result
+    same-length
+    returns
+    sub-last
+    slice-read-is-gap
+    is-gap-requires
+    slice-write-line-2
+    same-length-2
+    returns-2
+    returns-3
+    returns-4)

@@ -1,0 +1,6 @@
+pub mod InputLines
+pub mod InputLineLaws
+pub mod Holding
+pub mod HoldingLaws
+pub mod LineReading
+pub mod LineReadingLaws

@@ -1,0 +1,38 @@
+-- The course of a conversation: line after line, each answered before the next is read.
+use Prim.Native.Nat.{ℕ}
+use mathlib.Core.Path.{_≡_}
+use mathlib.Core.Bool.{cond}
+use mathlib.Core.List.{List, [], _∷_}
+use Rattle.board.specs.Board.{freshBoard, freshPlace}
+use Rattle.answers.specs.declared.Bench.{Bench}
+use Rattle.answers.specs.Bench.{Left, left, benchOf}
+use Rattle.console.specs.InputLines.{linesOf}
+use Rattle.conversation.specs.declared.Language.{Language}
+use Rattle.conversation.specs.declared.Served.{Served}
+use Rattle.conversation.specs.Heard.{heard, after, quits}
+
+-- "Starts as `make 0` with no memory."
+abbrev pub opening : Bench
+opening = benchOf (freshBoard 0) freshPlace 0
+
+-- what a line of a language leaves
+abbrev pub told : Language → List ℕ → Bench → List ℕ → Left
+told language line bench m = after line (heard language line) bench m
+
+-- what lines leave, one after the other: `quit` "ends the program", and so does the end of the input
+abbrev pub course : Language → List (List ℕ) → Bench → List ℕ → Left
+course language [] bench m = left bench m
+course language (line ∷ lines) bench m =
+    cond (quits line) (left bench m) (course language lines (told language line bench m .bench) (told language line bench m .memory))
+
+-- the promise of one line
+pub record ServedMeets (language : Language) (line : List ℕ) (bench : Bench) (m : List ℕ) (r : Served) (after : List ℕ) : Type 0 where
+  pub board : r .bench ≡ told language line bench m .bench
+  pub memory : after ≡ told language line bench m .memory
+  pub over : r .over ≡ quits line
+
+-- the promise of a conversation: the lines of some input, the bytes that reads have brought, were served in their order
+pub record CourseMeets (language : Language) (bench : Bench) (m : List ℕ) (r : Bench) (after : List ℕ) : Type 0 where
+  pub input : List ℕ
+  pub board : r ≡ course language (linesOf input) bench m .bench
+  pub memory : after ≡ course language (linesOf input) bench m .memory
