@@ -1,0 +1,2 @@
+pub mod Morning
+pub mod MorningLaws

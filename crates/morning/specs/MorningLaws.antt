@@ -1,0 +1,80 @@
+-- Laws of the morning's check: check after check, and the whole page.
+use Prim.Native.Nat.{ℕ, suc, _+_}
+use mathlib.Core.Path.{_≡_, refl, ap, sym, _∙_}
+use mathlib.Core.List.{List, [], _∷_, _++_, append-assoc}
+use native.Mathlib.Omega.{arith}
+use native.Mathlib.Nat.{add-zero}
+use lib.ListN.{length, length-append}
+use Rattle.text.specs.Text.{Puts, ascii}
+use Rattle.text.specs.TextLaws.{_then_, nothing}
+use Rattle.answers.specs.declared.Bench.{Bench}
+use Rattle.answers.specs.Bench.{Left, left}
+use Rattle.morning_page.specs.declared.Judged.{Judged}
+use Rattle.morning_page.specs.MorningPage.{Check, checkOf, checkText, checksText, badAfter, badFrom, verdictText, pageText, AllAsDue, JudgedSo}
+use Rattle.morning_page.specs.MorningPageLaws.{ending, good-said-all-due, all-due-good-said}
+use Rattle.script.specs.declared.Checked.{Checked}
+use Rattle.script.specs.Script.{lines, leaves, came, CheckedSo}
+use Rattle.morning.specs.Morning.{Planned, checksOf, boards, p9, first, nine, unjudged, PagedSo}
+
+-- a check, and those after it
+pub paged-on : (p : Planned) (more : List Planned) (l : Left) {number : ℕ} {before r r′ : Checked} {page page₁ page₂ m : List ℕ}
+    → CheckedSo number (checkOf (p .title) (p .due) (came (p .script) l)) (leaves (lines (p .script)) l) before page r page₁ m
+    → PagedSo (number + 1) (checksOf more (left (r .bench) m)) r page₁ r′ page₂ → PagedSo number (checksOf (p ∷ more) l) before page r′ page₂
+unfolding checksOf
+paged-on p more l one rest =
+    let after = rw (one .stands) at rest in
+    record {
+      lines = (one .puts) then (after .lines);
+      count = after .count ∙ ap (λ (bad : ℕ). badFrom bad (checksOf more (leaves (lines (p .script)) l))) (one .count);
+    }
+
+pub paged-none : (l : Left) {number : ℕ} {before : Checked} {page : List ℕ} → PagedSo number (checksOf [] l) before page before page
+unfolding checksOf
+paged-none l = record { lines = nothing _ _; count = refl }
+
+-- from the bench as it starts
+pub paged-first : (ps : List Planned) (m : List ℕ) {bench started : Bench} {page page₁ : List ℕ} {r : Checked} → bench ≡ started
+    → PagedSo 1 (checksOf ps (left bench m)) (unjudged bench) page r page₁ → PagedSo 1 (checksOf ps (left started m)) (unjudged started) page r page₁
+paged-first ps m e paged = rw e at paged
+
+-- a last check, and the verdict
+checks-more : (number : ℕ) (checks : List Check) (check : Check)
+    → checksText number (checks ++ (check ∷ [])) ≡ checksText number checks ++ (checkText (number + length checks) check ++ [])
+checks-more number [] check = rw (add-zero number)
+checks-more number (one ∷ checks) check =
+    let e : number + 1 + length checks ≡ number + suc (length checks) = omega arith in
+    let last = checkText (number + 1 + length checks) check ++ [] in
+    ap (λ (tail : List ℕ). checkText number one ++ tail) (checks-more (number + 1) checks check)
+    ∙ sym (append-assoc (checkText number one) (checksText (number + 1) checks) last)
+    ∙ ap (λ (n : ℕ). checksText number (one ∷ checks) ++ (checkText n check ++ [])) e
+
+bad-more : (bad : ℕ) (checks : List Check) (check : Check) → badFrom bad (checks ++ (check ∷ [])) ≡ badAfter (badFrom bad checks) check
+bad-more bad [] check = refl
+bad-more bad (one ∷ checks) check = bad-more (badAfter bad one) checks check
+
+pub page-whole : (checks : List Check) (check : Check) {bench : Bench} {r : Checked} {j : Judged} {page page₁ page₂ page₃ : List ℕ} {end : ℕ}
+    → length checks ≡ 8 → PagedSo 1 checks (unjudged bench) page r page₁ → JudgedSo 9 check (r .bad) page₁ (r .end) j page₂
+    → Puts page₂ (j .end) (verdictText (j .bad)) page₃ end → Puts page 0 (pageText (checks ++ (check ∷ []))) page₃ end
+page-whole checks check {j = j} {page} {page₂ = page₂} eight paged judged verdict =
+    let last : Puts page 0 (checksText 1 checks ++ (checkText (1 + length checks) check ++ [])) page₂ (j .end) =
+    rw eight ((paged .lines) then ((judged .lines) then (nothing _ _)))
+    in
+    let bad : j .bad ≡ badFrom 9 (checks ++ (check ∷ [])) =
+    judged .count ∙ ap (λ (b : ℕ). badAfter b check) (paged .count) ∙ sym (bad-more 9 checks check)
+    in
+    (rw (← checks-more 1 checks check) at last) then (rw bad at verdict)
+
+-- P1 to P8 are eight, and with P9 they are nine
+pub eight-boards : (l : Left) → length (checksOf boards l) ≡ 8
+unfolding checksOf
+eight-boards l = refl
+
+nine-checks : (m : List ℕ) → length (nine m) ≡ 9
+nine-checks m = length-append (checksOf boards (left first m)) (p9 ∷ []) ∙ ap (λ (n : ℕ). n + 1) (eight-boards (left first m))
+
+-- the page says GOOD exactly if each of the nine came out as it is due
+pub morning-good : (m : List ℕ) → ending (pageText (nine m)) ≡ ascii "ALL 9 GOOD\n" → AllAsDue (nine m)
+morning-good m said = good-said-all-due (nine m) (omega (arith, nine-checks m)) said .1
+
+pub good-morning : (m : List ℕ) → AllAsDue (nine m) → ending (pageText (nine m)) ≡ ascii "ALL 9 GOOD\n"
+good-morning m due = all-due-good-said (nine m) (nine-checks m) due

@@ -1,0 +1,2 @@
+pub mod MorningPage
+pub mod MorningPageLaws
