@@ -79,10 +79,13 @@ checksOf [] l = []
 checksOf (p ∷ more) l = checkOf (p .title) (p .due) (came (p .script) l) ∷ checksOf more (leaves (lines (p .script)) l)
 
 -- P9: the lister's lines, over room for 36 words
+abbrev pub p9Trace : List ℕ
+p9Trace = 0x10 ∷ 0x50 ∷ 0x90 ∷ 0x04 ∷ 0x03 ∷ 0x02 ∷ 0x11 ∷ 0xF0 ∷ 0xF0 ∷ []
+
 abbrev pub p9 : Check
 p9 =
     checkOf (ascii "the trace 10 50 90 04 03 02 11 F0 F0") (ascii "trace cycles=9 items=5, 0 1 0, 1 5 0, 6 9 4660, 6 1 0, 7 15 0")
-    (take room (listedText (0x10 ∷ 0x50 ∷ 0x90 ∷ 0x04 ∷ 0x03 ∷ 0x02 ∷ 0x11 ∷ 0xF0 ∷ 0xF0 ∷ []) 36))
+    (take room (listedText p9Trace 36))
 
 -- the bench as it starts: `make 0`, and no memory lent
 abbrev pub first : Bench

@@ -1,20 +1,23 @@
 -- Laws of the morning's check: check after check, and the whole page.
-use Prim.Native.Nat.{ℕ, suc, _+_}
+use Prim.Native.Nat.{ℕ, suc, _+_, _≤_}
 use mathlib.Core.Path.{_≡_, refl, ap, sym, _∙_}
+use mathlib.Core.Bool.{false}
 use mathlib.Core.List.{List, [], _∷_, _++_, append-assoc}
 use native.Mathlib.Omega.{arith}
 use native.Mathlib.Nat.{add-zero}
-use lib.ListN.{length, length-append}
+use lib.ListN.{length, take, length-append, length-take}
 use Rattle.text.specs.Text.{Puts, ascii}
-use Rattle.text.specs.TextLaws.{_then_, nothing}
+use Rattle.text.specs.TextLaws.{_then_, nothing, told-whole}
 use Rattle.answers.specs.declared.Bench.{Bench}
 use Rattle.answers.specs.Bench.{Left, left}
 use Rattle.morning_page.specs.declared.Judged.{Judged}
-use Rattle.morning_page.specs.MorningPage.{Check, checkOf, checkText, checksText, badAfter, badFrom, verdictText, pageText, AllAsDue, JudgedSo}
+use Rattle.morning_page.specs.MorningPage.{Check, checkOf, checkText, checksText, badAfter, badFrom, badOf, verdictText, pageText, AllAsDue, JudgedSo}
 use Rattle.morning_page.specs.MorningPageLaws.{ending, good-said-all-due, all-due-good-said}
+use Rattle.morning_page.specs.MorningRoomLaws.{sizeOf, sizesOf, checks-length, verdict-length}
+use Rattle.listed.specs.Listed.{listedText}
 use Rattle.script.specs.declared.Checked.{Checked}
-use Rattle.script.specs.Script.{lines, leaves, came, CheckedSo}
-use Rattle.morning.specs.Morning.{Planned, checksOf, boards, p9, first, nine, unjudged, PagedSo}
+use Rattle.script.specs.Script.{lines, leaves, shows, partedAfter, room, came, CheckedSo}
+use Rattle.morning.specs.Morning.{Planned, checksOf, boards, p9Trace, p9, first, nine, unjudged, PagedSo}
 
 -- a check, and those after it
 pub paged-on : (p : Planned) (more : List Planned) (l : Left) {number : ℕ} {before r r′ : Checked} {page page₁ page₂ m : List ℕ}
@@ -78,3 +81,40 @@ morning-good m said = good-said-all-due (nine m) (omega (arith, nine-checks m)) 
 
 pub good-morning : (m : List ℕ) → AllAsDue (nine m) → ending (pageText (nine m)) ≡ ascii "ALL 9 GOOD\n"
 good-morning m due = all-due-good-said (nine m) (nine-checks m) due
+
+-- the program's buffer has room for the whole page, whatever came out
+abbrev plannedSizes : List Planned → ℕ
+plannedSizes [] = 0
+plannedSizes (p ∷ more) = 60 + length (p .title) + length (p .due) + room + plannedSizes more
+
+came-within : (script : List ℕ) (l : Left) → length (came script l) ≤ room
+came-within script l = omega (arith, length-take room (partedAfter false (shows (lines script) l)))
+
+planned-within : (ps : List Planned) (l : Left) → sizesOf (checksOf ps l) ≤ plannedSizes ps
+unfolding checksOf
+planned-within [] l = omega arith
+planned-within (p ∷ more) l = omega (arith, came-within (p .script) l, planned-within more (leaves (lines (p .script)) l))
+
+sizes-more : (checks : List Check) (check : Check) → sizesOf (checks ++ (check ∷ [])) ≡ sizesOf checks + sizeOf check
+sizes-more [] check = omega arith
+sizes-more (one ∷ checks) check = omega (arith, sizes-more checks check)
+
+p9-within : sizeOf p9 ≤ 60 + 100 + room
+p9-within = omega (arith, length-take room (listedText p9Trace 36))
+
+pub page-fits : (m : List ℕ) → length (pageText (nine m)) ≤ 65536
+page-fits m =
+    omega (
+      arith,
+      length-append (checksText 1 (nine m)) (verdictText (badOf (nine m))),
+      checks-length 1 (nine m),
+      verdict-length (badOf (nine m)),
+      sizes-more (checksOf boards (left first m)) p9,
+      planned-within boards (left first m),
+      p9-within,
+    )
+
+-- so what stands up to its end is the page
+pub page-read : (m : List ℕ) {page page′ : List ℕ} {end : ℕ} → 65536 ≤ length page → Puts page 0 (pageText (nine m)) page′ end
+    → take end page′ ≡ pageText (nine m)
+page-read m {page} long puts = told-whole puts (omega (arith, page-fits m))

@@ -1,2 +1,3 @@
 pub mod MorningPage
 pub mod MorningPageLaws
+pub mod MorningRoomLaws

@@ -1,0 +1,79 @@
+-- How long the morning's page is at most: as long as its titles, what is due and what came out, and a little for each check.
+use Prim.Native.Nat.{ℕ, zero, suc, _+_, _^_, _≤_}
+use mathlib.Core.Path.{_≡_, refl, ap, _∙_}
+use mathlib.Core.Bool.{Bool, true, false, cond}
+use mathlib.Core.List.{List, [], _∷_, _++_}
+use native.Mathlib.Omega.{arith}
+use lib.Dec.{eqb, ltb}
+use lib.ListN.{length, length-append}
+use Rattle.text.specs.Text.{ascii}
+use Rattle.text.specs.NumberText.{digitsText, widthFrom, width, decimalText}
+use Rattle.morning_page.specs.MorningPage.{Check, isGood, underText, judgedText, checkText, checksText, goodLetters, badLetters, verdictText}
+
+digits-length : (base k n : ℕ) → length (digitsText base k n) ≡ k
+unfolding digitsText
+digits-length base zero n = refl
+digits-length base (suc k) n = ap suc (digits-length base k n)
+
+width-most : (base n more k : ℕ) → widthFrom base n more k ≤ k + more
+unfolding widthFrom
+width-most base n zero k = omega arith
+width-most base n (suc more) k = by-test (width-most base n more (suc k)) (ltb n (base ^ k))
+  where
+    by-test : widthFrom base n more (suc k) ≤ suc k + more → (t : Bool) → cond t k (widthFrom base n more (suc k)) ≤ k + suc more
+    by-test h true = omega arith
+    by-test h false = omega arith
+
+decimal-length : (n : ℕ) → length (decimalText n) ≤ 20
+decimal-length n = omega (arith, digits-length 10 (width 10 n) n, width-most 10 n 19 1)
+
+-- what a check takes on the page at most
+abbrev pub sizeOf : Check → ℕ
+sizeOf check = 60 + length (check .title) + length (check .due) + length (check .came)
+
+under-length : (verdict title came : List ℕ) → length (underText verdict title came) ≡ length verdict + length title + 5 + length came + 1
+under-length verdict title came = simp length-append
+
+judged-length : (good : Bool) (check : Check) → length (judgedText good check) ≤ 30 + length (check .title) + length (check .due) + length (check .came)
+judged-length true check = omega (arith, under-length (ascii " good: ") (check .title) (check .came))
+judged-length false check =
+    let front = underText (ascii " BAD: ") (check .title) (check .came) in
+    omega (
+      arith,
+      under-length (ascii " BAD: ") (check .title) (check .came),
+      length-append front (ascii "    due: "),
+      length-append (front ++ ascii "    due: ") (check .due),
+      length-append (front ++ ascii "    due: " ++ check .due) (ascii "\n"),
+    )
+
+check-length : (number : ℕ) (check : Check) → length (checkText number check) ≤ sizeOf check
+check-length number check =
+    omega (
+      arith,
+      length-append (ascii "P" ++ decimalText number) (judgedText (isGood check) check),
+      length-append (ascii "P") (decimalText number),
+      decimal-length number,
+      judged-length (isGood check) check,
+    )
+
+abbrev pub sizesOf : List Check → ℕ
+sizesOf [] = 0
+sizesOf (check ∷ checks) = sizeOf check + sizesOf checks
+
+pub checks-length : (number : ℕ) (checks : List Check) → length (checksText number checks) ≤ sizesOf checks
+checks-length number [] = omega arith
+checks-length number (check ∷ checks) =
+    omega (arith, length-append (checkText number check) (checksText (number + 1) checks), check-length number check, checks-length (number + 1) checks)
+
+pub verdict-length : (bad : ℕ) → length (verdictText bad) ≤ 200
+verdict-length bad = by-test (eqb bad 0)
+  where
+    by-test : (t : Bool) → length (cond t (goodLetters ++ ascii "ALL 9 GOOD\n") (badLetters ++ decimalText bad ++ ascii " BAD OF 9: HAND OUT NO POD\n")) ≤ 200
+    by-test true = omega arith
+    by-test false =
+        omega (
+          arith,
+          length-append (badLetters ++ decimalText bad) (ascii " BAD OF 9: HAND OUT NO POD\n"),
+          length-append badLetters (decimalText bad),
+          decimal-length bad,
+        )
