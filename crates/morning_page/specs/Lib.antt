@@ -1,3 +1,4 @@
 pub mod MorningPage
+pub mod SameBytesLaws
 pub mod MorningPageLaws
 pub mod MorningRoomLaws
