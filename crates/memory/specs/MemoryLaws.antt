@@ -1,4 +1,4 @@
--- Laws of memory: a store keeps the length and the bytes, a fetch stays within its size, and what was stored is fetched.
+-- Laws of memory: a store keeps the length and the bytes, and a fetch stays within its size.
 use Prim.Native.Nat.{ℕ, zero, suc, _+_, _/_, _%_, _<_}
 use native.Mathlib.Omega.{arith}
 use mathlib.Core.Path.{_≡_, refl}
