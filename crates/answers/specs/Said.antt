@@ -14,7 +14,7 @@ use Rattle.bus.specs.Events.{eventOutcome, breakpointOutcome}
 use Rattle.lent.specs.Lent.{fits}
 use Rattle.text.specs.Text.{ascii, Puts}
 use Rattle.text.specs.NumberText.{numberText}
-use Rattle.text.specs.RefusalText.{unclearText, refusedText}
+use Rattle.refusal_text.specs.RefusalText.{unclearText, refusedText}
 use Rattle.replies.specs.ReplyText.{packetText, eventText, breakpointText, peekText}
 use Rattle.state_line.specs.StateText.{stateText}
 use Rattle.board_lines.specs.declared.BoardLine.{BoardLine}

@@ -4,9 +4,10 @@ use mathlib.Core.List.{List}
 use Rattle.requests.specs.declared.Request.{Request}
 use Rattle.exchange.specs.declared.Exchanged.{Exchanged}
 use Rattle.exchange.specs.declared.Exchanged.the-variants.{Ended, Refused}
-use Rattle.exchange.specs.Exchange.{exchangeVerdict, answeredAs, endedThere, exchangeLeaves}
-use Rattle.text.specs.RefusalText.{refusedText}
-use Rattle.text.specs.RequestText.{exchangeText}
+use Rattle.exchange_verdict.specs.ExchangeVerdict.{exchangeVerdict}
+use Rattle.exchange.specs.Exchange.{answeredAs, endedThere, exchangeLeaves}
+use Rattle.refusal_text.specs.RefusalText.{refusedText}
+use Rattle.request_text.specs.RequestText.{exchangeText}
 use Rattle.answers.specs.declared.Bench.{Bench}
 use Rattle.answers.specs.Bench.{Left, portState, withState}
 

@@ -5,7 +5,8 @@ use mathlib.Core.List.{List}
 use Rattle.board.specs.State.{State}
 use Rattle.requests.specs.declared.Request.{Request}
 use Rattle.exchange.specs.declared.Returned.{Returned}
-use Rattle.exchange.specs.Exchange.{exchangeVerdict, answeredAs, endedThere, ExchangeMeets}
+use Rattle.exchange_verdict.specs.ExchangeVerdict.{exchangeVerdict}
+use Rattle.exchange.specs.Exchange.{answeredAs, endedThere, ExchangeMeets}
 use Rattle.exchange.specs.ExchangeUnique.{told-exchange-unique}
 
 pub exchange-outcome : {request : Request} {s : State} {r : Returned} {after : List ℕ} → ExchangeMeets request s r after

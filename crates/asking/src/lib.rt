@@ -7,9 +7,9 @@ ghost use Rattle.asking.specs.Asking.{exchanged, exchangedText, exchange
 use answers::Answered;
 use answers::Bench;
 use exchange::Exchanged;
+use refusal_text::put_refusal;
+use request_text::put_exchange;
 use requests::Request;
-use text::request::put_exchange;
-use text::request::put_refusal;
 
 fn put_exchanged(text: &mut [u8], answer: Exchanged) -> usize
     ensures { λ r. ⌜ Puts (now (text .entry)) 0 (exchangedText answer) (now (text .exit)) r ⌝ }

@@ -3,4 +3,3 @@ pub mod BoardUnique
 pub mod Setters
 pub mod RegisterBits
 pub mod State
-pub mod Ranges

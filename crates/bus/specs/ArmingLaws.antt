@@ -5,7 +5,7 @@ use mathlib.Core.Bool.{Bool, true, false}
 use Rattle.command.specs.declared.DebugRegister.the-variants.{Tdr}
 use Rattle.command.specs.Command.{wdmreg}
 use Rattle.board.specs.declared.Board.{Board}
-use Rattle.registers.specs.Csr.{flag}
+use Rattle.csr.specs.Csr.{flag}
 use Rattle.registers.specs.Registers.{debugLoaded, debugWritten, boardAfter}
 use Rattle.trigger.specs.Levels.{levelOf, levelOne}
 

@@ -3,8 +3,8 @@ use Prim.Native.Nat.{ℕ}
 use mathlib.Core.Bool.{Bool, false}
 use mathlib.Core.List.{List, [], _∷_}
 use Rattle.grounds.specs.Grounds.{Refusal, refusalOf, noRefusal}
-use Rattle.bus.specs.declared.Captured.{Captured}
-use Rattle.bus.specs.declared.Captured.the-variants.{Nothing, Pc}
+use Rattle.firing.specs.declared.Captured.{Captured}
+use Rattle.firing.specs.declared.Captured.the-variants.{Nothing, Pc}
 use Rattle.bus.specs.declared.EventOutcome as events
 use Rattle.bus.specs.declared.BreakpointOutcome as breakpoints
 

@@ -13,9 +13,9 @@ use Rattle.grounds.specs.Grounds.{noRefusal}
 use Rattle.board.specs.declared.Board.{Board}
 use Rattle.board.specs.declared.Status.{Status}
 use Rattle.board.specs.Board.{freshBoard, freshPlace}
-use Rattle.board.specs.Ranges.{inRange, bstatInRange}
+use Rattle.ranges.specs.Ranges.{inRange, bstatInRange}
 use Rattle.board.specs.Setters.{withStatus, withDebug, withHalted, withTrg, withBkpt, withBstat}
-use Rattle.registers.specs.Csr.{csrValue}
+use Rattle.csr.specs.Csr.{csrValue}
 use Rattle.registers.specs.Registers.{boardAfter, debugLoaded, debugWritten}
 use Rattle.trigger.specs.declared.Event.{Event}
 use Rattle.groups.specs.declared.Bus.the-variants.{Idle, Carries}
@@ -24,7 +24,7 @@ use Rattle.trigger.specs.Levels.{levelOf}
 use Rattle.comparators.specs.Comparators.{dataEnabled}
 use Rattle.groups.specs.Groups.{pcGroup, addressMatches, attributeAgrees, addressGroup, joined}
 use Rattle.trigger.specs.Fired.{fires, firedLevel}
-use Rattle.bus.specs.Firing.{bstatAfter, responds, firing, seen, statusAfter}
+use Rattle.firing.specs.Firing.{bstatAfter, responds, firing, seen, statusAfter}
 use Rattle.bus.specs.EventAnswers.{EventTold, toldEvent}
 use Rattle.bus.specs.Events.{eventVerdict, eventOutcome, boardAfterEvent}
 

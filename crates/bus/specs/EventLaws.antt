@@ -11,13 +11,13 @@ use Rattle.grounds.specs.Grounds.{ifAccepted}
 use Rattle.board.specs.declared.Board.{Board}
 use Rattle.board.specs.declared.Place.{Place}
 use Rattle.board.specs.declared.Status.{Status}
-use Rattle.board.specs.Ranges.{bstatInRange, boardInRange, placeInRange, inRange}
+use Rattle.ranges.specs.Ranges.{bstatInRange, boardInRange, placeInRange, inRange}
 use Rattle.board.specs.Setters.{withStatus}
 use Rattle.trigger.specs.declared.Event.{Event}
 use Rattle.trigger.specs.Levels.{levelTwo}
 use Rattle.trigger.specs.Fired.{firedLevel}
-use Rattle.bus.specs.Firing.{bstatAfter, firing, statusAfter}
-use Rattle.bus.specs.Breakpoint.{pressed, statusPressed}
+use Rattle.firing.specs.Firing.{bstatAfter, firing, statusAfter}
+use Rattle.firing.specs.Breakpoint.{pressed, statusPressed}
 use Rattle.bus.specs.Events.{eventVerdict, breakpointVerdict, boardAfterEvent, boardAfterBreakpoint}
 
 -- whatever the verdict, only the status may change: W, the registers and the debug registers stay

@@ -8,10 +8,10 @@ use Rattle.grounds.specs.GroundLaws.{same-refusal-same-ground, number-is-not-ze
 use Rattle.board.specs.declared.Board.{Board}
 use Rattle.board.specs.declared.Place.{Place}
 use Rattle.trigger.specs.declared.Event.{Event}
-use Rattle.bus.specs.declared.Captured.{Captured}
-use Rattle.bus.specs.declared.Captured.the-variants.{Nothing, Pc}
-use Rattle.bus.specs.declared.Seen.{Seen}
-use Rattle.bus.specs.declared.Pressed.{Pressed}
+use Rattle.firing.specs.declared.Captured.{Captured}
+use Rattle.firing.specs.declared.Captured.the-variants.{Nothing, Pc}
+use Rattle.firing.specs.declared.Seen.{Seen}
+use Rattle.firing.specs.declared.Pressed.{Pressed}
 use Rattle.bus.specs.declared.EventOutcome as events
 use Rattle.bus.specs.declared.BreakpointOutcome as breakpoints
 use Rattle.bus.specs.declared.EventAnswer.{EventAnswer}

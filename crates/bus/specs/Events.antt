@@ -10,20 +10,20 @@ use Rattle.grounds.specs.declared.Verdict.the-variants.{Accepted, Refused}
 use Rattle.grounds.specs.Grounds.{check, judge, ifAccepted}
 use Rattle.board.specs.declared.Board.{Board}
 use Rattle.board.specs.declared.Place.{Place}
-use Rattle.board.specs.Ranges.{inRange}
+use Rattle.ranges.specs.Ranges.{inRange}
 use Rattle.board.specs.Setters.{withStatus}
 use Rattle.groups.specs.declared.Bus.{Bus}
 use Rattle.groups.specs.declared.Bus.the-variants.{Idle, Carries}
 use Rattle.trigger.specs.declared.Event.{Event}
 use Rattle.comparators.specs.Lanes.{sizeField}
-use Rattle.bus.specs.declared.Seen.{Seen}
-use Rattle.bus.specs.declared.Pressed.{Pressed}
+use Rattle.firing.specs.declared.Seen.{Seen}
+use Rattle.firing.specs.declared.Pressed.{Pressed}
 use Rattle.bus.specs.declared.EventOutcome as events
 use Rattle.bus.specs.declared.BreakpointOutcome as breakpoints
 use Rattle.bus.specs.declared.EventAnswer.{EventAnswer}
 use Rattle.bus.specs.declared.BreakpointAnswer.{BreakpointAnswer}
-use Rattle.bus.specs.Firing.{firing, seen, statusAfter}
-use Rattle.bus.specs.Breakpoint.{pressed, statusPressed}
+use Rattle.firing.specs.Firing.{firing, seen, statusAfter}
+use Rattle.firing.specs.Breakpoint.{pressed, statusPressed}
 use Rattle.bus.specs.EventAnswers.{toldEvent, toldBreakpoint}
 
 -- "an access whose size field is 11"

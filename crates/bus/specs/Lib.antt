@@ -1,5 +1,3 @@
-pub mod Firing
-pub mod Breakpoint
 pub mod EventAnswers
 pub mod Events
 pub mod EventLaws

@@ -2,34 +2,13 @@
 ghost use Rattle.bus.specs.Events.{EventMeets, BreakpointMeets};
 use board::Board;
 use board::Place;
+use firing::Pressed;
+use firing::Seen;
 use grounds::Ground;
 use grounds::Verdict;
 use trigger::Event;
 
 mod events;
-mod input;
-
-// The PC that a pending SYNC_PC hands out.
-pub enum Captured {
-    Nothing,
-    Pc(u32),
-}
-
-// The level fired or 0, BSTAT after it, and the response that comes with it.
-pub struct Firing {
-    pub level: u32,
-    pub bstat: u32,
-    pub halts: bool,
-    pub interrupts: bool,
-}
-
-// What an event that is taken is answered.
-pub struct Seen {
-    pub level: u32,
-    pub halted: bool,
-    pub interrupt: bool,
-    pub captured: Captured,
-}
 
 pub enum EventOutcome {
     Refused(Ground),
@@ -39,12 +18,6 @@ pub enum EventOutcome {
 pub struct EventAnswer {
     pub outcome: EventOutcome,
     pub board: Board,
-}
-
-// What the breakpoint input is answered.
-pub struct Pressed {
-    pub halted: bool,
-    pub interrupt: bool,
 }
 
 pub enum BreakpointOutcome {
@@ -69,9 +42,9 @@ pub fn take_event(board: Board, place: Place, event: Event) -> EventAnswer
         Verdict::Accepted => {
             let status = board.status;
             let debug = board.debug;
-            let fired = events::fire(status, debug, event);
-            let answer = events::see(status, debug, event, fired);
-            let after = events::status_after(status, debug, fired);
+            let fired = firing::fire(status, debug, event);
+            let answer = firing::see(status, debug, event, fired);
+            let after = firing::status_after(status, debug, fired);
             let mut b = board;
             b.status = after;
             EventAnswer {
@@ -85,11 +58,11 @@ pub fn take_event(board: Board, place: Place, event: Event) -> EventAnswer
 pub fn press_breakpoint(board: Board, place: Place) -> BreakpointAnswer
     ensures { λ r. ⌜ BreakpointMeets board place r ⌝ }
 {
-    if board::is_in_range(board, place) {
+    if ranges::is_in_range(board, place) {
         let status = board.status;
         let debug = board.debug;
-        let answer = input::press(status, debug);
-        let after = input::status_pressed(status, answer);
+        let answer = firing::press(status, debug);
+        let after = firing::status_pressed(status, answer);
         let mut b = board;
         b.status = after;
         return BreakpointAnswer {

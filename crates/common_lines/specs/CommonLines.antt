@@ -1,5 +1,6 @@
 -- The desk's language: the lines that every program has, `help` and `quit`.
 use Prim.Native.Nat.{ℕ}
+use mathlib.Core.Bool.{Bool, true, false}
 use mathlib.Core.List.{List, [], _∷_}
 use Rattle.words.specs.declared.LineKind.{LineKind}
 use Rattle.words.specs.declared.LineKind.the-variants.{Silent, Clear, TooLong}
@@ -25,3 +26,12 @@ commonAt TooLong line = Other
 
 unfoldable pub commonLine : List ℕ → CommonLine
 commonLine line = commonAt (kindOf line) line
+
+-- "`quit` gets `bye` and ends the program"
+abbrev pub isQuit : CommonLine → Bool
+isQuit Help = false
+isQuit Quit = true
+isQuit Other = false
+
+abbrev pub quits : List ℕ → Bool
+quits line = isQuit (commonLine line)

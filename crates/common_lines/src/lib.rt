@@ -1,7 +1,7 @@
 // The desk's language: the lines that every program has, `help` and `quit`.
 ghost use mathlib.Core.Path.{_≡_};
 ghost use Rattle.words.specs.LineWords.{words};
-ghost use Rattle.common_lines.specs.CommonLines.{commonName, commonWords, commonLine};
+ghost use Rattle.common_lines.specs.CommonLines.{commonName, commonWords, commonLine, quits};
 use words::LineKind;
 
 pub enum CommonLine {
@@ -45,5 +45,15 @@ pub fn read_line(line: &[u8]) -> CommonLine
         LineKind::Silent => CommonLine::Other,
         LineKind::Clear => read_words(line),
         LineKind::TooLong => CommonLine::Other,
+    }
+}
+
+pub fn is_quit(line: &[u8]) -> bool
+    ensures { λ r. ⌜ r ≡ quits (now (line .entry)) ⌝ }
+{
+    match read_line(line) {
+        CommonLine::Help => false,
+        CommonLine::Quit => true,
+        CommonLine::Other => false,
     }
 }

@@ -7,9 +7,10 @@ use Rattle.board.specs.Board.{freshBoard, freshPlace}
 use Rattle.answers.specs.declared.Bench.{Bench}
 use Rattle.answers.specs.Bench.{Left, left, benchOf}
 use Rattle.console.specs.InputLines.{linesOf}
-use Rattle.conversation.specs.declared.Language.{Language}
+use Rattle.languages.specs.declared.Language.{Language}
 use Rattle.conversation.specs.declared.Served.{Served}
-use Rattle.conversation.specs.Heard.{heard, after, quits}
+use Rattle.common_lines.specs.CommonLines.{quits}
+use Rattle.languages.specs.Heard.{heard, after}
 
 -- "Starts as `make 0` with no memory."
 abbrev pub opening : Bench

@@ -13,7 +13,7 @@ use Rattle.board_lines.specs.BoardLines.{boardLine}
 use Rattle.talk_lines.specs.TalkLines.{eitherLine}
 use Rattle.common_lines.specs.declared.CommonLine.{CommonLine}
 use Rattle.common_lines.specs.declared.CommonLine.the-variants.{Help, Quit, Other}
-use Rattle.common_lines.specs.CommonLines.{commonLine}
+use Rattle.common_lines.specs.CommonLines.{commonLine, isQuit, quits}
 use Rattle.console.specs.declared.Input.the-variants.{Line, Last}
 use Rattle.console.specs.InputLines.{linesOf, firstLine, hasEnded}
 use Rattle.console.specs.InputLineLaws.{lines-end, open-line, throughEnd, through-end}
@@ -22,10 +22,10 @@ use Rattle.console.specs.HoldingLaws.{held-all, kind-held}
 use Rattle.console.specs.LineReading.{NextMeets}
 use Rattle.answers.specs.declared.Bench.{Bench}
 use Rattle.answers.specs.Bench.{Left, left, leaves}
-use Rattle.conversation.specs.declared.Language.{Language}
-use Rattle.conversation.specs.declared.Language.the-variants.{StandIn, Talk, Both, Pod}
+use Rattle.languages.specs.declared.Language.{Language}
+use Rattle.languages.specs.declared.Language.the-variants.{StandIn, Talk, Both, Pod}
 use Rattle.conversation.specs.declared.Served.{Served}
-use Rattle.conversation.specs.Heard.{heardOwn, heardAs, heard, after, isQuit, quits}
+use Rattle.languages.specs.Heard.{heardOwn, heardAs, heard, after}
 use Rattle.conversation.specs.Course.{told, course, ServedMeets, CourseMeets}
 
 -- a line that is silent or too long leaves all as it was, and does not quit

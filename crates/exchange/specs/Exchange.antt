@@ -1,33 +1,20 @@
--- The exchange (01, Packets, and by eye): what is refused, what its answer says on paper, and the promise: for every input its answer, the board, the place
+-- The exchange (01, Packets, and by eye): what its answer says on paper, and the promise: for every input its answer, the board, the place
 -- and each byte of memory.
 use Prim.Native.Nat.{ℕ}
 use mathlib.Core.Path.{_≡_}
-use mathlib.Core.List.{List, [], _∷_}
-use lib.Dec.{leb}
-use lib.ListN.{length}
-use Rattle.grounds.specs.declared.Ground.the-variants.{MemoryTooLong, StateOutOfRange, RequestOutOfRange}
+use mathlib.Core.List.{List}
 use Rattle.grounds.specs.declared.Verdict.{Verdict}
 use Rattle.grounds.specs.declared.Verdict.the-variants.{Accepted, Refused}
-use Rattle.grounds.specs.Grounds.{check, judge, Refusal, noRefusal, refusalOf, ifAccepted}
-use Rattle.board.specs.Ranges.{inRange as stateInRange}
+use Rattle.grounds.specs.Grounds.{Refusal, noRefusal, refusalOf, ifAccepted}
 use Rattle.board.specs.State.{State, stateOf}
 use Rattle.requests.specs.declared.Request.{Request}
-use Rattle.requests.specs.Request.{inRange}
 use Rattle.readings.specs.Reading.{outcomeReply, outcomeValue}
 use Rattle.round_trip.specs.RoundTrip.{outcomeThere, stateThere}
 use Rattle.round_trip.specs.BroughtToRest.{restScene, packetsFrom}
 use Rattle.exchange.specs.declared.Exchanged.{Exchanged}
 use Rattle.exchange.specs.declared.Exchanged.the-variants.{Ended, Refused as RefusedToExchange}
 use Rattle.exchange.specs.declared.Returned.{Returned}
-
--- the request's 13, and then a packet's own: "packets 12, 3"; no word that is built is above 0x1FFFF
-unfoldable pub exchangeVerdict : Request → State → Verdict
-exchangeVerdict request s =
-    judge
-    (check (inRange request) RequestOutOfRange
-    ∷ check (stateInRange (s .board) (s .place)) StateOutOfRange
-    ∷ check (leb (length (s .memory)) 65536) MemoryTooLong
-    ∷ [])
+use Rattle.exchange_verdict.specs.ExchangeVerdict.{exchangeVerdict}
 
 -- the request's outcome there, and all packets
 abbrev pub endedThere : Request → State → Exchanged

@@ -27,7 +27,8 @@ use Rattle.round_trip.specs.WriteReadLaws.{write-then-read}
 use Rattle.round_trip.specs.NextRequestLaws.{left-sound}
 use Rattle.exchange.specs.declared.Exchanged.the-variants.{Ended}
 use Rattle.exchange.specs.declared.Returned.{Returned}
-use Rattle.exchange.specs.Exchange.{exchangeVerdict, ExchangeMeets}
+use Rattle.exchange_verdict.specs.ExchangeVerdict.{exchangeVerdict}
+use Rattle.exchange.specs.Exchange.{ExchangeMeets}
 use Rattle.exchange.specs.ExchangeUnique.{told-exchange-unique}
 
 pub record FromRest (request : Request) (s : Scene) (next : ℕ) : Type 0 where

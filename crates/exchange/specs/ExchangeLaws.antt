@@ -12,7 +12,7 @@ use Rattle.grounds.specs.declared.Verdict.the-variants.{Accepted}
 use Rattle.grounds.specs.Grounds.{check}
 use Rattle.grounds.specs.GroundLaws.{accepted-holds}
 use Rattle.board.specs.Board.{atRest}
-use Rattle.board.specs.Ranges.{inRange as stateInRange}
+use Rattle.ranges.specs.Ranges.{inRange as stateInRange}
 use Rattle.board.specs.State.{State}
 use Rattle.sound.specs.Sound.{Sound}
 use Rattle.requests.specs.declared.Request.{Request}
@@ -23,7 +23,8 @@ use Rattle.round_trip.specs.BroughtToRest.{rested, restBudget, restScene, restP
 use Rattle.round_trip.specs.TalkMirror.{Talk, talk, exchanged}
 use Rattle.round_trip.specs.BroughtToRestLaws.{comes-to-rest, rest-keeps-sound, rest-nops-bound}
 use Rattle.round_trip.specs.TalkLaws.{exchange-from-anywhere, packets-bound}
-use Rattle.exchange.specs.Exchange.{exchangeVerdict, endedThere}
+use Rattle.exchange_verdict.specs.ExchangeVerdict.{exchangeVerdict}
+use Rattle.exchange.specs.Exchange.{endedThere}
 use Rattle.exchange.specs.ExchangeMirror.{answerOf}
 
 -- ---- accepted

@@ -9,7 +9,7 @@ use Rattle.laws.specs.TestLaws.{both-hold}
 use Rattle.command.specs.Command.{operandWords, waits}
 use Rattle.board.specs.declared.Phase.{Phase}
 use Rattle.board.specs.declared.Phase.the-variants.{Rest, Due, Waiting, Upper}
-use Rattle.board.specs.Ranges.{phaseInRange, bstatInRange, boardInRange, placeInRange, inRange}
+use Rattle.ranges.specs.Ranges.{phaseInRange, bstatInRange, boardInRange, placeInRange, inRange}
 use Rattle.board.specs.State.{State}
 use Rattle.sound.specs.Sound.{PhaseWithin, Sound}
 use Rattle.exchange.specs.ExchangeMirror.{PhaseTyped, Typed}

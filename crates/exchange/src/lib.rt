@@ -6,7 +6,7 @@ ghost use Rattle.sound.specs.Sound.{Sound};
 ghost use Rattle.requests.specs.Request.{inRange};
 ghost use Rattle.round_trip.specs.RoundTrip.{stateThere};
 ghost use Rattle.round_trip.specs.BroughtToRest.{restScene};
-ghost use Rattle.exchange.specs.Exchange.{exchangeVerdict, endedThere, ExchangeMeets};
+ghost use Rattle.exchange.specs.Exchange.{endedThere, ExchangeMeets};
 ghost use Rattle.exchange.specs.ExchangeMirror.{answerOf, PhaseTyped, Typed};
 use board::Board;
 use board::Phase;
@@ -81,21 +81,6 @@ fn note_types(board: Board, place: Place, memory: &[u8])
     note_phase(phase);
 }
 
-fn judge_exchange(request: Request, board: Board, place: Place, memory: &[u8]) -> Verdict
-    ensures { λ r. ⌜ r ≡ exchangeVerdict request (stateOf board place (now (memory .entry))) ⌝ }
-{
-    if requests::is_in_range(request) {
-        if board::is_in_range(board, place) {
-            if memory.len() <= 65536 {
-                return Verdict::Accepted;
-            }
-            return Verdict::Refused(Ground::MemoryTooLong);
-        }
-        return Verdict::Refused(Ground::StateOutOfRange);
-    }
-    Verdict::Refused(Ground::RequestOutOfRange)
-}
-
 // A place that is not at rest is brought to rest with NOPs, which are counted. Then the request's words go out one by one, and NOPs after them, until a reply
 // closes the request. The reply to a word leaves with the next: so after an illegal command word one operand word has gone in before the pod knows, and the
 // port has taken it as a command word, which no pod can help; the place may then be left in any phase.
@@ -103,7 +88,7 @@ pub fn exchange(request: Request, board: Board, place: Place, memory: &mut [u8])
     ensures { λ r. ⌜ ExchangeMeets request (stateOf board place (now (memory .entry))) r (now (memory .exit)) ⌝ }
 {
     note_types(board, place, memory);
-    match judge_exchange(request, board, place, memory) {
+    match exchange_verdict::judge_exchange(request, board, place, memory) {
         Verdict::Accepted => rest_and_converse(request, board, place, memory),
         Verdict::Refused(ground) => Returned {
             answer: Exchanged::Refused(ground),

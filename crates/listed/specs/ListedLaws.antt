@@ -16,7 +16,7 @@ use Rattle.trace.specs.TraceReadingLaws.{read-count}
 use Rattle.listing.specs.Listing.{listing, wordsAfter, ListingMeets}
 use Rattle.listing.specs.ListingLaws.{listed-read}
 use Rattle.text.specs.Text.{ascii}
-use Rattle.text.specs.RefusalText.{refusedAt}
+use Rattle.refusal_text.specs.RefusalText.{refusedAt}
 use Rattle.text.specs.ListingText.{headText, wordsOfItem}
 use Rattle.listed.specs.Listed.{itemsText, toldText, listedText}
 

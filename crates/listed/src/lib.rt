@@ -1,8 +1,8 @@
 // The lister's lines of a trace in one line: parted by a comma and a space, as the morning's page has them.
+use refusal_text::put_refusal_at;
 use text::listing::put_head;
 use text::listing::put_item;
 use text::put_text;
-use text::request::put_refusal_at;
 use trace::Listing;
 ghost use Rattle.text.specs.Text.{Puts};
 ghost use Rattle.listed.specs.Listed.{itemsText, listedText};

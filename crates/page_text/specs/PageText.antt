@@ -19,7 +19,7 @@ use Rattle.summary.specs.declared.page.Page.{Page}
 use Rattle.summary.specs.Page.{pageOf, pageVerdict}
 use Rattle.text.specs.Text.{ascii}
 use Rattle.text.specs.NumberText.{digitsText, hexText, decimalText}
-use Rattle.text.specs.RefusalText.{refusedAt}
+use Rattle.refusal_text.specs.RefusalText.{refusedAt}
 
 abbrev pub line : List ℕ → List ℕ
 line text = text ++ ascii "\n"

@@ -1,9 +1,9 @@
 // The text of a page: its lines, or its refusal.
 mod lines;
 
+use refusal_text::put_refusal_at;
 use summary::page;
 use summary::page::Page;
-use text::request::put_refusal_at;
 use trace::Listing;
 ghost use mathlib.Core.Path.{_≡_};
 ghost use lib.ListN.{length};

@@ -1,48 +1,20 @@
 -- Packets (01): what a packet's input is taken for. A command word, an operand, or nothing where input is ignored.
 use Prim.Native.Nat.{ℕ, _+_, _*_, _-_}
-use mathlib.Core.Bool.{Bool, true, false, cond, _&&_, _||_, not}
+use mathlib.Core.Bool.{Bool, cond, _&&_, _||_, not}
 use lib.Dec.{eqb, leb}
 use Rattle.command.specs.declared.Command.{Command}
-use Rattle.command.specs.declared.Command.the-variants.{Unknown, Nop, Load, Store, Show, Change}
-use Rattle.command.specs.declared.Base.the-variants.{Address, Pointer}
-use Rattle.command.specs.Command.{decoded, operandWords, haltedOnly, waits}
+use Rattle.command.specs.Command.{decoded, operandWords, waits}
 use Rattle.board.specs.declared.Operands.{Operands}
 use Rattle.board.specs.declared.Phase.{Phase}
 use Rattle.board.specs.declared.Phase.the-variants.{Rest, Due, Waiting, Upper}
-use Rattle.board.specs.declared.Chain.{Chain}
 use Rattle.board.specs.declared.Standing.{Standing}
-use Rattle.board.specs.declared.Chain.the-variants.{Off, Dumping, Filling}
 use Rattle.plan.specs.declared.Plan.{Plan}
 use Rattle.plan.specs.declared.Plan.the-variants.{Hold, Reject, Release, Work}
+use Rattle.legality.specs.Legality.{legalCommand}
 
 -- "A packet has 17 bits: C (bit 16) and 16 data bits."
 abbrev pub carriesC : ℕ → Bool
 carriesC word = leb 0x10000 word
-
-abbrev pub isDumping : Chain → Bool
-isDumping Off = false
-isDumping Dumping = true
-isDumping Filling = false
-
-abbrev pub isFilling : Chain → Bool
-isFilling Off = false
-isFilling Dumping = false
-isFilling Filling = true
-
--- "DUMP is legal only after READ or DUMP, FILL only after WRITE or FILL"; "Any other word .. is illegal"
-abbrev pub follows : Command → Chain → Bool
-follows Unknown chain = false
-follows Nop chain = true
-follows (Load s Address) chain = true
-follows (Load s Pointer) chain = isDumping chain
-follows (Store s Address) chain = true
-follows (Store s Pointer) chain = isFilling chain
-follows (Show source) chain = true
-follows (Change target) chain = true
-
--- ".. or a "halted" command while running, is illegal"
-abbrev pub legalCommand : Command → Standing → Bool
-legalCommand c s = (s .halted || not (haltedOnly c)) && follows c (s .chain)
 
 -- "C set, at rest or while an operand is due: illegal"; "Halted is judged when the command word is taken"
 abbrev pub legalWord : ℕ → Standing → Bool

@@ -1,19 +1,16 @@
--- Laws of what a packet is taken for: at rest for a command word, C set for none; ignored input whatever it holds; "DUMP is legal only after
--- READ or DUMP, FILL only after WRITE or FILL"; a NOP is always legal.
+-- Laws of what a packet is taken for: at rest for a command word, C set for none; ignored input whatever it holds; a NOP is always legal.
 use Prim.Native.Nat.{ℕ}
 use mathlib.Core.Path.{_≡_, refl}
 use mathlib.Core.Bool.{true, false}
 use Rattle.laws.specs.TestLaws.{by-test}
-use Rattle.memory.specs.declared.Size.{Size}
 use Rattle.command.specs.declared.Command.{Command}
 use Rattle.command.specs.declared.Command.the-variants.{Nop}
-use Rattle.command.specs.Command.{decoded, decodedWord, operandWords, dump, fill}
-use Rattle.board.specs.declared.Chain.the-variants.{Dumping, Filling}
+use Rattle.command.specs.Command.{decoded, decodedWord, operandWords}
 use Rattle.board.specs.declared.Operands.{Operands}
 use Rattle.board.specs.declared.Phase.the-variants.{Rest, Due, Waiting, Upper}
 use Rattle.board.specs.declared.Standing.{Standing}
 use Rattle.plan.specs.declared.Plan.the-variants.{Reject, Work}
-use Rattle.plan.specs.Plan.{carriesC, follows, legalWord, noOperands, workAfter, collected, begun, continued, planOf}
+use Rattle.plan.specs.Plan.{carriesC, legalWord, noOperands, workAfter, collected, begun, continued, planOf}
 
 -- "Every packet accepted at rest is a command word taken": legal, with all its operand words due; else illegal
 module _ (s : Standing) (w word : ℕ) where
@@ -41,12 +38,6 @@ module _ (s : Standing) (w word : ℕ) where
 
   pub upper-ignores-input : (low : ℕ) (other : ℕ) (r : Standing) → planOf (Upper low) s w word ≡ planOf (Upper low) r w other
   upper-ignores-input low other r = refl
-
-pub dump-not-after-write : (s : Size) → follows (dump s) Filling ≡ false
-dump-not-after-write s = refl
-
-pub fill-not-after-read : (s : Size) → follows (fill s) Dumping ≡ false
-fill-not-after-read s = refl
 
 -- a NOP is legal whatever the chain and whether the processor runs, and works at once
 pub nop-plan : (s : Standing) (w : ℕ) → planOf Rest s w 0 ≡ Work Nop 0 0

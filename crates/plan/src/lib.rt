@@ -1,13 +1,11 @@
 // What a packet's input is taken for: a command word, an operand, or nothing (01, "Packets").
 ghost use mathlib.Core.Path.{_≡_};
 ghost use Prim.Native.Nat.{_-_};
-ghost use Rattle.plan.specs.Plan.{isDumping, isFilling, follows, legalCommand, long, withOperand, addressIn, valueIn};
+ghost use Rattle.plan.specs.Plan.{long, withOperand, addressIn, valueIn};
 ghost use Rattle.plan.specs.Plan.{workAfter, waitsOf, collected, begun, continued, planOf};
-use board::Chain;
 use board::Operands;
 use board::Phase;
 use board::Standing;
-use command::Base;
 use command::Command;
 
 pub enum Plan {
@@ -19,58 +17,6 @@ pub enum Plan {
     Release(u16),
     // The command, its address and its data.
     Work(Command, u32, u32),
-}
-
-fn is_dumping(chain: Chain) -> bool
-    ensures { λ r. ⌜ r ≡ isDumping chain ⌝ }
-{
-    match chain {
-        Chain::Off => false,
-        Chain::Dumping => true,
-        Chain::Filling => false,
-    }
-}
-
-fn is_filling(chain: Chain) -> bool
-    ensures { λ r. ⌜ r ≡ isFilling chain ⌝ }
-{
-    match chain {
-        Chain::Off => false,
-        Chain::Dumping => false,
-        Chain::Filling => true,
-    }
-}
-
-fn may_follow(command: Command, chain: Chain) -> bool
-    ensures { λ r. ⌜ r ≡ follows command chain ⌝ }
-{
-    match command {
-        Command::Unknown => false,
-        Command::Nop => true,
-        Command::Load(_, base) => match base {
-            Base::Address => true,
-            Base::Pointer => is_dumping(chain),
-        },
-        Command::Store(_, base) => match base {
-            Base::Address => true,
-            Base::Pointer => is_filling(chain),
-        },
-        Command::Show(_) => true,
-        Command::Change(_) => true,
-    }
-}
-
-fn is_legal(command: Command, standing: Standing) -> bool
-    ensures { λ r. ⌜ r ≡ legalCommand command standing ⌝ }
-{
-    let chain = standing.chain;
-    if standing.halted {
-        return may_follow(command, chain);
-    }
-    if command::needs_halted(command) {
-        return false;
-    }
-    may_follow(command, chain)
 }
 
 fn join(upper: u16, low: u16) -> u32
@@ -151,7 +97,7 @@ fn begin(standing: Standing, w: u32, word: u32) -> Plan
         return Plan::Reject;
     }
     let command = command::decode(word);
-    if is_legal(command, standing) {
+    if legality::is_legal(command, standing) {
         let none = Operands {
             oldest: 0,
             older: 0,

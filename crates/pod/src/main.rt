@@ -1,5 +1,5 @@
 // The pod's half: requests built and replies read, line by line (the desk's language, `pod`).
-use conversation::Language;
+use languages::Language;
 
 fn main() {
     conversation::hold(Language::Pod);

@@ -9,7 +9,7 @@ use Rattle.grounds.specs.declared.Ground.the-variants.{WordTooLarge, MemoryTooL
 use Rattle.grounds.specs.declared.Verdict.{Verdict}
 use Rattle.grounds.specs.declared.Verdict.the-variants.{Accepted, Refused}
 use Rattle.grounds.specs.Grounds.{number, check, judge, Refusal, noRefusal, refusalOf, ifAccepted}
-use Rattle.board.specs.Ranges.{inRange}
+use Rattle.ranges.specs.Ranges.{inRange}
 use Rattle.board.specs.State.{State, stateOf}
 use Rattle.step.specs.Step.{replyNow, stepped}
 use Rattle.port.specs.declared.Answer.{Answer}

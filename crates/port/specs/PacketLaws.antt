@@ -8,7 +8,7 @@ use borrow.Author.Tests.{le-leb, lt-leb}
 use Rattle.grounds.specs.declared.Ground.{Ground}
 use Rattle.grounds.specs.declared.Ground.the-variants.{WordTooLarge, MemoryTooLong, StateOutOfRange}
 use Rattle.grounds.specs.declared.Verdict.the-variants.{Accepted, Refused}
-use Rattle.board.specs.Ranges.{inRange}
+use Rattle.ranges.specs.Ranges.{inRange}
 use Rattle.board.specs.State.{State}
 use Rattle.port.specs.declared.Answer.{Answer}
 use Rattle.port.specs.Packet.{packetVerdict, PacketTold, PacketMeets, Unaltered, Stepped}

@@ -21,7 +21,7 @@ pub struct Answer {
 fn judge_packet(board: Board, place: Place, memory: &[u8], word: u32) -> Verdict
     ensures { λ r. ⌜ r ≡ packetVerdict (stateOf board place (now (memory .entry))) word ⌝ }
 {
-    if board::is_in_range(board, place) {
+    if ranges::is_in_range(board, place) {
         if memory.len() <= 65536 {
             if word <= 0x1FFFF {
                 return Verdict::Accepted;

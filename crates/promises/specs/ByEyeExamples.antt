@@ -8,10 +8,11 @@ use Rattle.grounds.specs.Grounds.{Refusal, noRefusal, told}
 use Rattle.memory.specs.Memory.{fetched, stored}
 use Rattle.command.specs.Command.{decoded, decodedWord}
 use Rattle.board.specs.Board.{freshBoard, freshPlace, makingVerdict}
-use Rattle.board.specs.Ranges.{inRange, bstatInRange}
+use Rattle.ranges.specs.Ranges.{inRange, bstatInRange}
 use Rattle.board.specs.State.{State, stateOf}
-use Rattle.registers.specs.Csr.{csrValue, bstatRead}
-use Rattle.registers.specs.Registers.{debugLoaded, debugWritten, controlIndex, controlFetched, controlWritten}
+use Rattle.csr.specs.Csr.{csrValue, bstatRead}
+use Rattle.control.specs.Control.{controlIndex, controlFetched, controlWritten}
+use Rattle.registers.specs.Registers.{debugLoaded, debugWritten}
 use Rattle.plan.specs.Plan.{workAfter, collected, begun, continued}
 use Rattle.step.specs.Step.{planFor, replyNow, stepped}
 use Rattle.port.specs.Packet.{packetVerdict}
@@ -21,7 +22,7 @@ use Rattle.comparators.specs.Comparators.{dataEnabled}
 use Rattle.groups.specs.Groups.{pcGroup, addressMatches, attributeAgrees, addressGroup, joined}
 use Rattle.trigger.specs.Levels.{levelOf}
 use Rattle.trigger.specs.Fired.{fires, firedLevel}
-use Rattle.bus.specs.Firing.{bstatAfter, responds, firing, seen, statusAfter}
+use Rattle.firing.specs.Firing.{bstatAfter, responds, firing, seen, statusAfter}
 use Rattle.bus.specs.EventAnswers.{EventTold, toldEvent}
 use Rattle.bus.specs.Events.{eventVerdict, eventOutcome}
 use Rattle.bus.specs.EventExamples.{fired, p4Outside, p4Inside, p4Csr, p5Event, p5Board, p5}

@@ -7,7 +7,7 @@ use lib.ListN.{length}
 use Rattle.grounds.specs.declared.Verdict.the-variants.{Accepted}
 use Rattle.command.specs.Reply.{complete}
 use Rattle.board.specs.declared.Board.{Board}
-use Rattle.board.specs.Ranges.{inRange}
+use Rattle.ranges.specs.Ranges.{inRange}
 use Rattle.board.specs.Board.{atRest}
 use Rattle.board.specs.State.{State}
 use Rattle.promises.specs.Machine.{Machine}

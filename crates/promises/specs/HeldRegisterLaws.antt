@@ -20,7 +20,7 @@ use Rattle.board.specs.Board.{freshPlace}
 use Rattle.board.specs.State.{State, standingOf}
 use Rattle.work.specs.declared.Ending.{Ending}
 use Rattle.work.specs.declared.Ending.the-variants.{Complete, Failed, OneWord, TwoWords}
-use Rattle.work.specs.Access.{accessOf}
+use Rattle.access.specs.Access.{accessOf}
 use Rattle.work.specs.Work.{endingOf, phaseAfter}
 use Rattle.plan.specs.declared.Plan.{Plan}
 use Rattle.plan.specs.declared.Plan.the-variants.{Hold, Reject, Release, Work}

@@ -14,7 +14,7 @@ use Rattle.grounds.specs.Grounds.{check, ifAccepted}
 use Rattle.grounds.specs.GroundLaws.{accepted-holds}
 use Rattle.board.specs.declared.Board.{Board}
 use Rattle.board.specs.declared.Place.{Place}
-use Rattle.board.specs.Ranges.{bstatInRange, boardInRange, placeInRange, inRange}
+use Rattle.ranges.specs.Ranges.{bstatInRange, boardInRange, placeInRange, inRange}
 use Rattle.board.specs.State.{State, stateOf}
 use Rattle.trigger.specs.declared.Event.{Event}
 use Rattle.step.specs.Step.{stepped}

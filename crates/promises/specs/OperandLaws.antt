@@ -10,7 +10,7 @@ use Rattle.command.specs.Command.{fill, operandWords}
 use Rattle.command.specs.CommandLaws.{four-at-most, only-fill-has-one}
 use Rattle.board.specs.declared.Operands.{Operands}
 use Rattle.board.specs.declared.Board.{Board}
-use Rattle.work.specs.Access.{accessOf}
+use Rattle.access.specs.Access.{accessOf}
 use Rattle.work.specs.Work.{endingOf}
 use Rattle.plan.specs.Plan.{carriesC, noOperands, withOperand, addressIn}
 use Rattle.promises.specs.TakenWords.{anyC, addressSent}

@@ -16,7 +16,7 @@ use Rattle.board.specs.declared.Place.{Place}
 use Rattle.board.specs.declared.Phase.{Phase}
 use Rattle.board.specs.declared.Phase.the-variants.{Rest, Due, Waiting, Upper}
 use Rattle.board.specs.Board.{freshBoard, freshPlace, atRest}
-use Rattle.board.specs.Ranges.{inRange, bstatInRange}
+use Rattle.ranges.specs.Ranges.{inRange, bstatInRange}
 use Rattle.board.specs.Setters.{placeWith}
 use Rattle.board.specs.State.{State, stateOf}
 use Rattle.memory.specs.Memory.{fetched}

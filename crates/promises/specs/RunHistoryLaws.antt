@@ -14,7 +14,7 @@ use Rattle.grounds.specs.declared.Verdict.the-variants.{Accepted}
 use Rattle.grounds.specs.Grounds.{check, ifAccepted}
 use Rattle.grounds.specs.GroundLaws.{accepted-holds}
 use Rattle.memory.specs.Memory.{AllBelow}
-use Rattle.board.specs.Ranges.{inRange}
+use Rattle.ranges.specs.Ranges.{inRange}
 use Rattle.board.specs.State.{State, stateOf}
 use Rattle.step.specs.Step.{replyNow, stepped}
 use Rattle.port.specs.Packet.{packetVerdict}

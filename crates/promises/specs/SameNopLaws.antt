@@ -10,7 +10,8 @@ use Rattle.board.specs.declared.Board.{Board}
 use Rattle.board.specs.declared.Status.{Status}
 use Rattle.board.specs.Setters.{withStatus, withRegisters, withControl}
 use Rattle.board.specs.State.{State, stateOf, standingOf}
-use Rattle.registers.specs.Registers.{controlIndex, controlListed, controlFetched, controlWritten, debugWritten, boardAfter}
+use Rattle.control.specs.Control.{controlIndex, controlListed, controlFetched, controlWritten}
+use Rattle.registers.specs.Registers.{debugWritten, boardAfter}
 use Rattle.registers.specs.ChangeLaws.{each-change}
 use Rattle.plan.specs.declared.Plan.{Plan}
 use Rattle.plan.specs.declared.Plan.the-variants.{Hold, Reject, Release, Work}

@@ -16,7 +16,7 @@ use Rattle.board.specs.declared.Operands.{Operands}
 use Rattle.board.specs.declared.Phase.the-variants.{Due}
 use Rattle.board.specs.declared.Chain.the-variants.{Off}
 use Rattle.board.specs.Board.{freshBoard, freshPlace}
-use Rattle.board.specs.Ranges.{inRange, bstatInRange, boardInRange}
+use Rattle.ranges.specs.Ranges.{inRange, bstatInRange, boardInRange}
 use Rattle.board.specs.Setters.{placeWith}
 use Rattle.board.specs.State.{State, stateOf}
 use Rattle.registers.specs.Registers.{boardAfter, debugLoaded, debugWritten}

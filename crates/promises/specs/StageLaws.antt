@@ -9,7 +9,7 @@ use borrow.Author.Tests.{eqb-false, eq-eqb, ne-eqb}
 use Rattle.command.specs.declared.Command.{Command}
 use Rattle.command.specs.Command.{decoded, operandWords}
 use Rattle.board.specs.declared.Operands.{Operands}
-use Rattle.work.specs.Access.{accessOf}
+use Rattle.access.specs.Access.{accessOf}
 use Rattle.work.specs.Work.{endingOf}
 use Rattle.plan.specs.Plan.{legalWord, noOperands, addressIn, waitsOf}
 use Rattle.promises.specs.TakenWords.{Word, anyC, endingFound, ended, stage}

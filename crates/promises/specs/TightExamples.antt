@@ -6,9 +6,9 @@ use mathlib.Core.List.{[], _∷_}
 use lib.ListN.{replicate}
 use Rattle.command.specs.Command.{decoded, decodedWord}
 use Rattle.board.specs.Board.{freshBoard, freshPlace, atRest}
-use Rattle.board.specs.Ranges.{inRange, bstatInRange}
+use Rattle.ranges.specs.Ranges.{inRange, bstatInRange}
 use Rattle.board.specs.State.{State}
-use Rattle.registers.specs.Registers.{controlIndex, controlFetched, controlWritten}
+use Rattle.control.specs.Control.{controlIndex, controlFetched, controlWritten}
 use Rattle.plan.specs.Plan.{workAfter, collected, begun, continued}
 use Rattle.step.specs.Step.{planFor, stepped}
 use Rattle.port.specs.Packet.{packetVerdict}

@@ -6,9 +6,10 @@ use Rattle.command.specs.declared.Command.the-variants.{Unknown, Nop, Load, Sto
 use Rattle.command.specs.declared.Source.the-variants as source
 use Rattle.command.specs.declared.Target.the-variants as target
 use Rattle.board.specs.declared.Board.{Board}
-use Rattle.registers.specs.Csr.{afterCsrRead, afterGo, afterSyncPc}
+use Rattle.csr.specs.Csr.{afterCsrRead, afterGo, afterSyncPc}
 use Rattle.board.specs.Setters.{withStatus}
-use Rattle.registers.specs.Registers.{generalWritten, controlWritten, debugWritten, boardAfter}
+use Rattle.control.specs.Control.{generalWritten, controlWritten}
+use Rattle.registers.specs.Registers.{debugWritten, boardAfter}
 
 pub record EachChange (P : (Board → Board) → Type 0) (address value : ℕ) : Type 0 where
   pub none : P (λ b. b)

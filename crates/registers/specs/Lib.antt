@@ -1,3 +1,2 @@
-pub mod Csr
 pub mod Registers
 pub mod ChangeLaws

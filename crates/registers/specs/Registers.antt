@@ -1,11 +1,10 @@
--- Packets (01): the control and debug registers, and what each command's work leaves of the board.
-use Prim.Native.Nat.{ℕ, suc, _%_, _^_}
+-- Packets (01): the debug registers, and what each command's work leaves of the board.
+use Prim.Native.Nat.{ℕ, _%_, _^_}
 use mathlib.Core.Bool.{Bool, true, cond, _||_}
-use mathlib.Core.List.{List, [], _∷_}
-use lib.Dec.{eqb, ltb}
-use lib.ListN.{getD, set}
+use lib.Dec.{eqb}
+use lib.ListN.{getD}
 use Rattle.memory.specs.declared.Fetch.{Fetch}
-use Rattle.memory.specs.declared.Fetch.the-variants.{Value, BusError}
+use Rattle.memory.specs.declared.Fetch.the-variants.{Value}
 use Rattle.command.specs.declared.DebugRegister.{DebugRegister}
 use Rattle.command.specs.declared.DebugRegister.the-variants.{Csr, Baar, Aatr, Tdr, Pbr, Pbmr, Abhr, Ablr, Dbr, Dbmr}
 use Rattle.command.specs.declared.Command.{Command}
@@ -18,34 +17,10 @@ use Rattle.command.specs.Command.{debugNumber}
 use Rattle.board.specs.declared.Board.{Board}
 use Rattle.board.specs.declared.Status.{Status}
 use Rattle.board.specs.declared.Debug.{Debug}
-use Rattle.board.specs.Setters.{withStatus, withRegisters, withDebug, withGeneral, withControl, withBstat}
+use Rattle.board.specs.Setters.{withStatus, withDebug, withBstat}
 use Rattle.board.specs.RegisterBits.{eblOf}
-use Rattle.registers.specs.Csr.{flag, csrWritten, csrValue, afterCsrRead, afterGo, afterSyncPc}
-
--- "Control registers: .."
-abbrev pub controlNumbers : List ℕ
-controlNumbers = 0x002 ∷ 0x004 ∷ 0x005 ∷ 0x801 ∷ 0x804 ∷ 0x805 ∷ 0x806 ∷ 0x80E ∷ 0x80F ∷ 0xC04 ∷ []
-
--- how many of the list stand before the number: all of them where it is not listed
-abbrev pub indexIn : List ℕ → ℕ → ℕ
-indexIn [] n = 0
-indexIn (k ∷ ks) n = cond (eqb n k) 0 (suc (indexIn ks n))
-
-unfoldable pub controlIndex : ℕ → ℕ
-controlIndex n = indexIn controlNumbers n
-
--- "A first operand word not zero, or a second not listed, is a bus error": the two words are one number
-abbrev pub controlListed : ℕ → Bool
-controlListed n = ltb (controlIndex n) 10
-
-unfoldable pub controlFetched : Board → ℕ → Fetch
-controlFetched b n = cond (controlListed n) (Value (getD (b .registers .control) (controlIndex n) 0)) BusError
-
-unfoldable pub controlWritten : Board → ℕ → ℕ → Board
-controlWritten b n v = cond (controlListed n) (withRegisters b (withControl (b .registers) (set (b .registers .control) (controlIndex n) v))) b
-
-abbrev pub generalWritten : Board → ℕ → ℕ → Board
-generalWritten b n v = withRegisters b (withGeneral (b .registers) (set (b .registers .general) (n % 16) v))
+use Rattle.csr.specs.Csr.{flag, csrWritten, csrValue, afterCsrRead, afterGo, afterSyncPc}
+use Rattle.control.specs.Control.{controlListed, controlFetched, controlWritten, generalWritten}
 
 -- a register is known by its number
 abbrev pub is : ℕ → DebugRegister → Bool

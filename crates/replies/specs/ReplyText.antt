@@ -3,10 +3,10 @@ use Prim.Native.Nat.{ℕ, zero, suc}
 use mathlib.Core.Bool.{Bool}
 use mathlib.Core.List.{List, [], _++_}
 use lib.ListN.{getD}
-use Rattle.bus.specs.declared.Captured.{Captured}
-use Rattle.bus.specs.declared.Captured.the-variants.{Nothing, Pc}
-use Rattle.bus.specs.declared.Seen.{Seen}
-use Rattle.bus.specs.declared.Pressed.{Pressed}
+use Rattle.firing.specs.declared.Captured.{Captured}
+use Rattle.firing.specs.declared.Captured.the-variants.{Nothing, Pc}
+use Rattle.firing.specs.declared.Seen.{Seen}
+use Rattle.firing.specs.declared.Pressed.{Pressed}
 use Rattle.bus.specs.declared.EventOutcome.{EventOutcome}
 use Rattle.bus.specs.declared.EventOutcome.the-variants as event
 use Rattle.bus.specs.declared.BreakpointOutcome.{BreakpointOutcome}
@@ -15,7 +15,7 @@ use Rattle.port.specs.declared.Outcome.{Outcome}
 use Rattle.port.specs.declared.Outcome.the-variants.{Reply, Refusing}
 use Rattle.text.specs.Text.{ascii, flagText}
 use Rattle.text.specs.NumberText.{hexText}
-use Rattle.text.specs.RefusalText.{refusedText}
+use Rattle.refusal_text.specs.RefusalText.{refusedText}
 
 -- "`reply X` with five digits, or `refused N at 0`"
 abbrev pub packetText : Outcome → List ℕ

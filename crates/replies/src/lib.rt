@@ -5,12 +5,12 @@ ghost use lib.ListN.{getD};
 ghost use Rattle.text.specs.Text.{Puts};
 ghost use Rattle.replies.specs.ReplyText.{packetText, haltedText, capturedText, seenText, eventText, pressedText, breakpointText, bytesText, peekText};
 use bus::BreakpointOutcome;
-use bus::Captured;
 use bus::EventOutcome;
-use bus::Pressed;
-use bus::Seen;
+use firing::Captured;
+use firing::Pressed;
+use firing::Seen;
 use port::Outcome;
-use text::request::put_refusal;
+use refusal_text::put_refusal;
 
 pub fn put_reply(text: &mut [u8], outcome: Outcome) -> usize
     ensures { λ r. ⌜ Puts (now (text .entry)) 0 (packetText outcome) (now (text .exit)) r ⌝ }

@@ -23,8 +23,8 @@ use Rattle.board.specs.declared.Phase.{Phase}
 use Rattle.board.specs.declared.Phase.the-variants.{Rest, Due, Waiting, Upper}
 use Rattle.board.specs.Board.{atRest}
 use Rattle.registers.specs.Registers.{shown, reached}
-use Rattle.work.specs.declared.Access.the-variants.{Stored, Missing}
-use Rattle.work.specs.Access.{past, fetchedAccess, startOf, accessOf}
+use Rattle.access.specs.declared.Access.the-variants.{Stored, Missing}
+use Rattle.access.specs.Access.{past, fetchedAccess, startOf, accessOf}
 use Rattle.work.specs.Work.{accessEnding, shownEnding, changeEnding, endingOf, phaseAfter}
 use Rattle.plan.specs.declared.Plan.{Plan}
 use Rattle.plan.specs.declared.Plan.the-variants.{Hold, Reject, Release, Work}

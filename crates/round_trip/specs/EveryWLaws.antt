@@ -3,8 +3,8 @@ use Prim.Native.Nat.{ℕ}
 use mathlib.Core.Path.{_≡_, refl}
 use Rattle.memory.specs.declared.Size.{Size}
 use Rattle.memory.specs.Memory.{present}
-use Rattle.registers.specs.Csr.{csrValue}
-use Rattle.registers.specs.Registers.{controlListed}
+use Rattle.csr.specs.Csr.{csrValue}
+use Rattle.control.specs.Control.{controlListed}
 use Rattle.requests.specs.declared.Request.{Request}
 use Rattle.requests.specs.declared.Request.the-variants.{Rdreg, Wdreg, Read, Write, Dump, Fill, Go, Nop, SyncPc, Rcreg, Wcreg, Rdmreg, Wdmreg}
 use Rattle.board.specs.Setters.{withW}

@@ -9,10 +9,11 @@ use Rattle.command.specs.declared.DebugRegister.the-variants.{Tdr}
 use Rattle.board.specs.declared.Board.{Board}
 use Rattle.board.specs.declared.Chain.{Chain}
 use Rattle.board.specs.declared.Chain.the-variants.{Off, Dumping, Filling}
-use Rattle.registers.specs.Csr.{csrValue, afterCsrRead, afterGo, afterSyncPc}
+use Rattle.csr.specs.Csr.{csrValue, afterCsrRead, afterGo, afterSyncPc}
 use Rattle.board.specs.Setters.{withStatus, withRegisters, withDebug, withGeneral, withControl}
-use Rattle.registers.specs.Registers.{controlIndex, controlListed, is, armed, debugLoaded}
-use Rattle.work.specs.Access.{past}
+use Rattle.control.specs.Control.{controlIndex, controlListed}
+use Rattle.registers.specs.Registers.{is, armed, debugLoaded}
+use Rattle.access.specs.Access.{past}
 use Rattle.requests.specs.declared.Request.{Request}
 use Rattle.requests.specs.declared.Request.the-variants.{Rdreg, Wdreg, Read, Write, Dump, Fill, Go, Nop, SyncPc, Rcreg, Wcreg, Rdmreg, Wdmreg}
 use Rattle.readings.specs.declared.Outcome.{Outcome}

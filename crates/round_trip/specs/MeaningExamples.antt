@@ -9,8 +9,8 @@ use Rattle.command.specs.Command.{decoded, decodedWord}
 use Rattle.command.specs.Reply.{complete}
 use Rattle.board.specs.declared.Chain.the-variants.{Off}
 use Rattle.board.specs.Board.{freshBoard, freshPlace}
-use Rattle.registers.specs.Csr.{csrValue}
-use Rattle.registers.specs.Registers.{controlIndex}
+use Rattle.csr.specs.Csr.{csrValue}
+use Rattle.control.specs.Control.{controlIndex}
 use Rattle.plan.specs.Plan.{workAfter, collected, begun, continued}
 use Rattle.board.specs.State.{stateOf}
 use Rattle.step.specs.Step.{replyNow, planFor, stepped}

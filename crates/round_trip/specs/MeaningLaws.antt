@@ -11,7 +11,8 @@ use Rattle.command.specs.declared.Command.the-variants.{Unknown}
 use Rattle.command.specs.declared.Base.the-variants.{Address, Pointer}
 use Rattle.command.specs.Command.{decoded, operandWords}
 use Rattle.board.specs.declared.Standing.{Standing}
-use Rattle.plan.specs.Plan.{carriesC, legalCommand, noOperands, addressIn, valueIn}
+use Rattle.legality.specs.Legality.{legalCommand}
+use Rattle.plan.specs.Plan.{carriesC, noOperands, addressIn, valueIn}
 use Rattle.requests.specs.declared.Request.{Request}
 use Rattle.requests.specs.declared.Request.the-variants.{Rdreg, Wdreg, Read, Write, Dump, Fill, Go, Nop, SyncPc, Rcreg, Wcreg, Rdmreg, Wdmreg}
 use Rattle.requests.specs.declared.ResultKind.the-variants.{OfSize}

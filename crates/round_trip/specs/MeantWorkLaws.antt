@@ -16,14 +16,15 @@ use Rattle.command.specs.Command as command
 use Rattle.command.specs.Command.{lookedUp, debugNumber}
 use Rattle.board.specs.declared.Board.{Board}
 use Rattle.board.specs.declared.Chain.{Chain}
-use Rattle.work.specs.declared.Access.the-variants.{Fetched}
+use Rattle.access.specs.declared.Access.the-variants.{Fetched}
 use Rattle.work.specs.declared.Ending.{Ending}
-use Rattle.work.specs.Access.{past, startOf, accessOf, memoryAfter, pointerAfter}
+use Rattle.access.specs.Access.{past, startOf, accessOf, memoryAfter, pointerAfter}
 use Rattle.work.specs.Work.{accessEnding, endingOf, chainBy, chainAfter}
 use Rattle.board.specs.State.{State}
 use Rattle.sound.specs.Sound.{Sound}
-use Rattle.registers.specs.Csr.{flag, csrValue}
-use Rattle.registers.specs.Registers.{controlIndex, controlListed, controlFetched, controlWritten, debugWritten, boardAfter}
+use Rattle.csr.specs.Csr.{flag, csrValue}
+use Rattle.control.specs.Control.{controlIndex, controlListed, controlFetched, controlWritten}
+use Rattle.registers.specs.Registers.{debugWritten, boardAfter}
 use Rattle.requests.specs.declared.Request.the-variants.{Wdmreg}
 use Rattle.requests.specs.declared.ResultKind.{ResultKind}
 use Rattle.requests.specs.declared.ResultKind.the-variants.{NoResult, OfSize}

@@ -15,7 +15,7 @@ use Rattle.board.specs.declared.Phase.{Phase}
 use Rattle.board.specs.declared.Phase.the-variants.{Due, Waiting}
 use Rattle.work.specs.declared.Ending.{Ending}
 use Rattle.work.specs.declared.Ending.the-variants.{Complete, Failed, OneWord, TwoWords}
-use Rattle.work.specs.Access.{accessOf}
+use Rattle.access.specs.Access.{accessOf}
 use Rattle.work.specs.Work.{endingOf, chainBy, chainAfter}
 use Rattle.plan.specs.declared.Plan.the-variants.{Hold, Work}
 use Rattle.plan.specs.Plan.{withOperand, noOperands, addressIn, valueIn, waitsOf, workAfter, collected, begun, continued, legalWord}

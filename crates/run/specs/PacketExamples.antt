@@ -7,7 +7,7 @@ use Rattle.memory.specs.Memory.{fetched, stored}
 use Rattle.command.specs.Command.{decoded, decodedWord}
 use Rattle.board.specs.Board.{freshBoard, freshPlace}
 use Rattle.board.specs.State.{State, stateOf}
-use Rattle.registers.specs.Csr.{csrValue, bstatRead}
+use Rattle.csr.specs.Csr.{csrValue, bstatRead}
 use Rattle.plan.specs.Plan.{workAfter, collected, begun, continued}
 use Rattle.step.specs.Step.{planFor, replyNow, stepped}
 use Rattle.run.specs.Run.{ran, replies}

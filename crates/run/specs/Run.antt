@@ -8,7 +8,7 @@ use lib.ListN.{length, drop}
 use Rattle.grounds.specs.declared.Ground.the-variants.{WordTooLarge, MemoryTooLong, BufferTooShort, StateOutOfRange}
 use Rattle.grounds.specs.declared.Verdict.{Verdict}
 use Rattle.grounds.specs.Grounds.{check, judge, told, ifAccepted}
-use Rattle.board.specs.Ranges.{inRange}
+use Rattle.ranges.specs.Ranges.{inRange}
 use Rattle.board.specs.State.{State, stateOf}
 use Rattle.step.specs.Step.{replyNow, stepped}
 use Rattle.run.specs.declared.Ran.{Ran}

@@ -12,11 +12,11 @@ use Rattle.board.specs.declared.Board.{Board}
 use Rattle.board.specs.declared.Place.{Place}
 use Rattle.board.specs.declared.Phase.{Phase}
 use Rattle.board.specs.declared.Phase.the-variants.{Rest, Due, Waiting, Upper}
-use Rattle.board.specs.Ranges.{inRange}
+use Rattle.ranges.specs.Ranges.{inRange}
 use Rattle.board.specs.State.{State, stateOf}
 use Rattle.work.specs.declared.Ending.{Ending}
 use Rattle.work.specs.declared.Ending.the-variants.{Complete, Failed, OneWord, TwoWords}
-use Rattle.work.specs.Access.{accessOf}
+use Rattle.access.specs.Access.{accessOf}
 use Rattle.work.specs.Work.{endingOf, firstReply, phaseAfter}
 use Rattle.plan.specs.declared.Plan.{Plan}
 use Rattle.plan.specs.declared.Plan.the-variants.{Hold, Reject, Release, Work}

@@ -46,7 +46,7 @@ fn all_within(words: &[u32]) -> bool
 fn judge_run(board: Board, place: Place, memory: &[u8], words: &[u32], room: usize) -> Verdict
     ensures { λ r. ⌜ r ≡ runVerdict (stateOf board place (now (memory .entry))) (now (words .entry)) room ⌝ }
 {
-    if board::is_in_range(board, place) {
+    if ranges::is_in_range(board, place) {
         if memory.len() <= 65536 {
             if all_within(words) {
                 if words.len() <= room {

@@ -19,8 +19,8 @@ use Rattle.board.specs.declared.Chain.the-variants.{Off, Dumping, Filling}
 use Rattle.board.specs.Board.{makingVerdict}
 use Rattle.port.specs.declared.Outcome.{Outcome}
 use Rattle.port.specs.declared.Outcome.the-variants.{Reply, Refusing}
-use Rattle.bus.specs.declared.Captured.{Captured}
-use Rattle.bus.specs.declared.Captured.the-variants.{Nothing as NoPc, Pc}
+use Rattle.firing.specs.declared.Captured.{Captured}
+use Rattle.firing.specs.declared.Captured.the-variants.{Nothing as NoPc, Pc}
 use Rattle.bus.specs.declared.EventOutcome.{EventOutcome}
 use Rattle.bus.specs.declared.EventOutcome.the-variants as event
 use Rattle.bus.specs.declared.BreakpointOutcome.{BreakpointOutcome}
@@ -36,8 +36,8 @@ use Rattle.exchange.specs.declared.Exchanged.{Exchanged}
 use Rattle.exchange.specs.declared.Exchanged.the-variants.{Ended, Refused as RefusedToExchange}
 use Rattle.text.specs.Text.{flagText}
 use Rattle.text.specs.NumberText.{digitsText, widthFrom, width, numberText, decimalText}
-use Rattle.text.specs.RefusalText.{refusedAt}
-use Rattle.text.specs.RequestText.{outcomeText}
+use Rattle.refusal_text.specs.RefusalText.{refusedAt}
+use Rattle.request_text.specs.RequestText.{outcomeText}
 use Rattle.text_laws.specs.ReadBackLaws.{digits-length}
 use Rattle.replies.specs.ReplyText.{packetText, capturedText, eventText, breakpointText, bytesText}
 use Rattle.state_line.specs.StateText.{bitOf, registersText, phaseText, chainText, stateText}

@@ -17,7 +17,7 @@ use Rattle.board.specs.declared.Board.{Board}
 use Rattle.board.specs.declared.Place.{Place}
 use Rattle.board.specs.declared.Phase.{Phase}
 use Rattle.board.specs.declared.Phase.the-variants.{Rest, Due, Waiting, Upper}
-use Rattle.board.specs.Ranges.{phaseInRange, boardInRange, placeInRange, inRange}
+use Rattle.ranges.specs.Ranges.{phaseInRange, boardInRange, placeInRange, inRange}
 use Rattle.board.specs.State.{State}
 use Rattle.step.specs.Step.{replyIn, replyNow}
 use Rattle.port.specs.declared.Answer.{Answer}

@@ -9,8 +9,8 @@ use Rattle.words.specs.LineWords.{joined}
 use Rattle.text.specs.Text.{Puts, ascii}
 use Rattle.answers.specs.declared.Bench.{Bench}
 use Rattle.answers.specs.Bench.{Left, left}
-use Rattle.conversation.specs.declared.Language.the-variants.{Both}
-use Rattle.conversation.specs.Heard.{heard, after, saidTo}
+use Rattle.languages.specs.declared.Language.the-variants.{Both}
+use Rattle.languages.specs.Heard.{heard, after, saidTo}
 use Rattle.morning_page.specs.MorningPage.{Check, checkOf, checkText, badAfter}
 use Rattle.script.specs.declared.Gone.{Gone}
 use Rattle.script.specs.declared.Checked.{Checked}

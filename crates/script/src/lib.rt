@@ -2,7 +2,7 @@
 // `+` marks a line of the desk's language whose answer is shown, any other mark one that prepares.
 use answers::Answered;
 use answers::Bench;
-use conversation::Language;
+use languages::Language;
 use morning_page::put_check;
 ghost use mathlib.Core.Path.{_≡_};
 ghost use mathlib.Core.Bool.{false};
@@ -35,7 +35,7 @@ fn answer(line: &[u8], bench: Bench, memory: &mut [u8], text: &mut [u8]) -> Answ
     ensures { λ r. ⌜ (left (r .bench) (now (memory .exit)) ≡ leftBy (now (line .entry)) (left bench (now (memory .entry))))
         × Puts (now (text .entry)) 0 (answerTo (now (line .entry)) (left bench (now (memory .entry)))) (now (text .exit)) (r .end) ⌝ }
 {
-    conversation::answer(Language::Both, line, bench, memory, text)
+    languages::answer(Language::Both, line, bench, memory, text)
 }
 
 // A line that prepares; its answer is not shown.

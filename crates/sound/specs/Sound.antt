@@ -12,7 +12,7 @@ use Rattle.board.specs.declared.Operands.{Operands}
 use Rattle.board.specs.declared.Phase.{Phase}
 use Rattle.board.specs.declared.Phase.the-variants.{Rest, Due, Waiting, Upper}
 use Rattle.board.specs.declared.Place.{Place}
-use Rattle.board.specs.Ranges.{bstatInRange}
+use Rattle.ranges.specs.Ranges.{bstatInRange}
 use Rattle.board.specs.State.{State}
 
 -- "32 bits each", "AATR keeps the low 16 bits, BAAR the low 8"

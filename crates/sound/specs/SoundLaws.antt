@@ -24,11 +24,12 @@ use Rattle.board.specs.declared.Phase.the-variants.{Rest, Due, Waiting, Upper}
 use Rattle.board.specs.declared.Place.{Place}
 use Rattle.board.specs.Board.{freshBoard, freshPlace}
 use Rattle.board.specs.RegisterBits.{eblOf}
-use Rattle.board.specs.Ranges.{phaseInRange, bstatInRange, inRange}
-use Rattle.registers.specs.Csr.{flag, csrWritten, bstatRead}
-use Rattle.registers.specs.Registers.{is, controlIndex, controlListed, armed, debugLoaded, generalWritten, controlWritten, debugWritten, boardAfter}
+use Rattle.ranges.specs.Ranges.{phaseInRange, bstatInRange, inRange}
+use Rattle.csr.specs.Csr.{flag, csrWritten, bstatRead}
+use Rattle.control.specs.Control.{controlIndex, controlListed, generalWritten, controlWritten}
+use Rattle.registers.specs.Registers.{is, armed, debugLoaded, debugWritten, boardAfter}
 use Rattle.registers.specs.ChangeLaws.{each-change}
-use Rattle.work.specs.WorkLaws.{no-other-changes-memory}
+use Rattle.access.specs.AccessLaws.{no-other-changes-memory}
 use Rattle.plan.specs.declared.Plan.{Plan}
 use Rattle.plan.specs.declared.Plan.the-variants.{Hold, Reject, Release, Work}
 use Rattle.board.specs.Setters.{withStatus, withRegisters, withControl}

@@ -21,13 +21,14 @@ use Rattle.command.specs.declared.Source.the-variants as source
 use Rattle.command.specs.Reply.{complete, notReady, busError, illegal}
 use Rattle.board.specs.declared.Board.{Board}
 use Rattle.board.specs.declared.Place.{Place}
-use Rattle.registers.specs.Csr.{flag, csrValue}
-use Rattle.registers.specs.Registers.{controlIndex, controlListed, controlFetched, shown, reached}
-use Rattle.work.specs.declared.Access.{Access}
-use Rattle.work.specs.declared.Access.the-variants.{NoAccess, Fetched, Stored, Missing}
+use Rattle.csr.specs.Csr.{flag, csrValue}
+use Rattle.control.specs.Control.{controlIndex, controlListed, controlFetched}
+use Rattle.registers.specs.Registers.{shown, reached}
+use Rattle.access.specs.declared.Access.{Access}
+use Rattle.access.specs.declared.Access.the-variants.{NoAccess, Fetched, Stored, Missing}
 use Rattle.work.specs.declared.Ending.{Ending}
 use Rattle.work.specs.declared.Ending.the-variants.{Complete, Failed, OneWord, TwoWords}
-use Rattle.work.specs.Access.{past, fetchedAccess, fetching, storing, startOf, accessOf, memoryAfter, pointerAfter}
+use Rattle.access.specs.Access.{past, fetchedAccess, fetching, storing, startOf, accessOf, memoryAfter, pointerAfter}
 use Rattle.work.specs.Work.{accessEnding, shownEnding, changeEnding, endingOf, firstReply, phaseAfter, placeAfter}
 use Rattle.sound.specs.Sound.{SoundBoard, PhaseWithin, SoundPlace, SoundMemory}
 

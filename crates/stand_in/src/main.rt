@@ -1,5 +1,5 @@
 // The stand-in: a board that answers the lines of standard input (the desk's language, `stand_in`).
-use conversation::Language;
+use languages::Language;
 
 fn main() {
     conversation::hold(Language::StandIn);

@@ -11,7 +11,7 @@ use Rattle.board.specs.declared.Phase.{Phase}
 use Rattle.board.specs.declared.Phase.the-variants.{Rest, Due, Waiting, Upper}
 use Rattle.board.specs.declared.Chain.{Chain}
 use Rattle.board.specs.declared.Chain.the-variants.{Off, Dumping, Filling}
-use Rattle.registers.specs.Csr.{csrValue}
+use Rattle.csr.specs.Csr.{csrValue}
 use Rattle.text.specs.Text.{ascii}
 use Rattle.text.specs.NumberText.{hexText, numberText}
 

@@ -61,11 +61,7 @@ fn put_fields(text: &mut [u8], at: usize, form: &[u8], values: &[u32]) -> usize
 fn put_status(text: &mut [u8], at: usize, board: Board) -> usize
     ensures { λ r. ⌜ Puts (now (text .entry)) at (fieldsText (statusFields board)) (now (text .exit)) r ⌝ }
 {
-    let values = [
-        board.w,
-        one_if(board.status.halted),
-        registers::csr_of(board),
-    ];
+    let values = [board.w, one_if(board.status.halted), csr::csr_of(board)];
     put_fields(text, at, b"w=\x01 halted=\x01 csr=\x08 ", &values)
 }
 

@@ -13,7 +13,7 @@ use Rattle.board.specs.declared.Chain.the-variants.{Off}
 use Rattle.board.specs.Setters.{placeWith}
 use Rattle.board.specs.State.{State, stateOf, standingOf}
 use Rattle.registers.specs.Registers.{boardAfter}
-use Rattle.work.specs.Access.{accessOf, memoryAfter}
+use Rattle.access.specs.Access.{accessOf, memoryAfter}
 use Rattle.work.specs.Work.{endingOf, placeAfter}
 use Rattle.plan.specs.declared.Plan.{Plan}
 use Rattle.plan.specs.declared.Plan.the-variants.{Hold, Reject, Release, Work}

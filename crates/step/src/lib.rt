@@ -127,7 +127,7 @@ pub fn carry_out(board: Board, place: Place, memory: &mut [u8], plan: Plan) -> N
 {
     match plan {
         Plan::Work(command, address, value) => {
-            let access = work::make_access(memory, command, place.pointer, address, value);
+            let access = access::make_access(memory, command, place.pointer, address, value);
             let ending = work::find_ending(command, board, address, access);
             let settled = work::settle(command, place, access, ending);
             if leaves_board(command) {

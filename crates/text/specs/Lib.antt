@@ -1,8 +1,5 @@
 pub mod Text
 pub mod NumberText
-pub mod RefusalText
-pub mod RequestText
 pub mod ListingText
 pub mod TextLaws
 pub mod NumberTextLaws
-pub mod RequestTextLaws

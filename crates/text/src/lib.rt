@@ -6,7 +6,6 @@ ghost use Rattle.text.specs.Text.{Puts, flagText};
 ghost use Rattle.text.specs.NumberText.{digitText, digitsText, width, hexText, numberText, decimalText};
 
 pub mod listing;
-pub mod request;
 
 // The place after the byte; a byte beyond the text is left out.
 pub fn put_byte(text: &mut [u8], at: usize, byte: u8) -> usize

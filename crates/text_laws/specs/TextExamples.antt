@@ -6,13 +6,13 @@ use Rattle.grounds.specs.declared.Ground.the-variants.{ReservedPst, StateOutOfR
 use Rattle.readings.specs.declared.Outcome.the-variants.{Value, BusError}
 use Rattle.readings.specs.declared.Reading.the-variants.{Ended, NotYet}
 use Rattle.port.specs.declared.Outcome.the-variants.{Reply}
-use Rattle.bus.specs.declared.Captured.the-variants.{Nothing, Pc}
+use Rattle.firing.specs.declared.Captured.the-variants.{Nothing, Pc}
 use Rattle.board.specs.Board.{freshBoard, freshPlace}
-use Rattle.registers.specs.Csr.{csrValue}
+use Rattle.csr.specs.Csr.{csrValue}
 use Rattle.text.specs.Text.{ascii}
 use Rattle.text.specs.NumberText.{digitText, digitsText, widthFrom, numberText, decimalText}
-use Rattle.text.specs.RefusalText.{refusedAt, refusedText}
-use Rattle.text.specs.RequestText.{wordsText, readingText, exchangeText}
+use Rattle.refusal_text.specs.RefusalText.{refusedAt, refusedText}
+use Rattle.request_text.specs.RequestText.{wordsText, readingText, exchangeText}
 use Rattle.text.specs.ListingText.{headText, itemText}
 use Rattle.replies.specs.ReplyText.{packetText, seenText, pressedText, peekText}
 use Rattle.state_line.specs.StateText.{registersText, stateText}

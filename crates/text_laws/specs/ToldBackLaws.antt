@@ -18,17 +18,17 @@ use Rattle.readings.specs.declared.Reading.{Reading}
 use Rattle.readings.specs.declared.Reading.the-variants.{Ended, NotYet, Refused}
 use Rattle.port.specs.declared.Outcome.{Outcome as PacketOutcome}
 use Rattle.port.specs.declared.Outcome.the-variants.{Reply, Refusing}
-use Rattle.bus.specs.declared.Captured.{Captured}
-use Rattle.bus.specs.declared.Captured.the-variants.{Nothing, Pc}
-use Rattle.bus.specs.declared.Seen.{Seen}
+use Rattle.firing.specs.declared.Captured.{Captured}
+use Rattle.firing.specs.declared.Captured.the-variants.{Nothing, Pc}
+use Rattle.firing.specs.declared.Seen.{Seen}
 use Rattle.bus.specs.declared.EventOutcome.{EventOutcome}
 use Rattle.bus.specs.declared.EventOutcome.the-variants as event
 use Rattle.bus.specs.declared.BreakpointOutcome.{BreakpointOutcome}
 use Rattle.bus.specs.declared.BreakpointOutcome.the-variants as breakpoint
 use Rattle.numbers.specs.Numbers.{value}
 use Rattle.text.specs.NumberText.{digitText, digitsText, widthFrom}
-use Rattle.text.specs.RefusalText.{refusedAt}
-use Rattle.text.specs.RequestText.{readingText, exchangeText}
+use Rattle.refusal_text.specs.RefusalText.{refusedAt}
+use Rattle.request_text.specs.RequestText.{readingText, exchangeText}
 use Rattle.replies.specs.ReplyText.{packetText, capturedText, seenText, eventText, pressedText, breakpointText}
 use Rattle.text_laws.specs.ReadBackLaws.{decimalValue, hex-back, decimal-back}
 

@@ -9,8 +9,8 @@ use Rattle.readings.specs.declared.Reading.{Reading}
 use Rattle.port.specs.declared.Outcome.{Outcome as PacketOutcome}
 use Rattle.bus.specs.declared.EventOutcome.{EventOutcome}
 use Rattle.bus.specs.declared.BreakpointOutcome.{BreakpointOutcome}
-use Rattle.text.specs.RefusalText.{refusedAt}
-use Rattle.text.specs.RequestText.{readingText, exchangeText}
+use Rattle.refusal_text.specs.RefusalText.{refusedAt}
+use Rattle.request_text.specs.RequestText.{readingText, exchangeText}
 use Rattle.replies.specs.ReplyText.{packetText, eventText, breakpointText}
 use Rattle.text_laws.specs.ReadBackLaws.{decimalValue}
 use Rattle.text_laws.specs.ToldBackLaws.{refusalOf, refusal-back, packetOf, PacketHeld, packet-back, outcomeOf, numberAt, OutcomeHeld, exchange-back}

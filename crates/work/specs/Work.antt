@@ -15,11 +15,11 @@ use Rattle.board.specs.declared.Chain.the-variants.{Off, Dumping, Filling}
 use Rattle.board.specs.declared.Place.{Place}
 use Rattle.board.specs.Setters.{placeWith}
 use Rattle.registers.specs.Registers.{shown, reached}
-use Rattle.work.specs.declared.Access.{Access}
-use Rattle.work.specs.declared.Access.the-variants.{NoAccess, Fetched, Stored, Missing}
+use Rattle.access.specs.declared.Access.{Access}
+use Rattle.access.specs.declared.Access.the-variants.{NoAccess, Fetched, Stored, Missing}
 use Rattle.work.specs.declared.Ending.{Ending}
 use Rattle.work.specs.declared.Ending.the-variants.{Complete, Failed, OneWord, TwoWords}
-use Rattle.work.specs.Access.{pointerAfter}
+use Rattle.access.specs.Access.{pointerAfter}
 
 abbrev pub accessEnding : Access → Ending
 accessEnding NoAccess = Complete

@@ -1,29 +1,16 @@
 // What a command does once its last word is in and its waits are over (01, "Packets").
 ghost use mathlib.Core.Path.{_≡_};
-ghost use Rattle.work.specs.Access.{past, fetching, storing, startOf, accessOf, memoryAfter, pointerAfter};
 ghost use Rattle.work.specs.Work.{accessEnding, shownEnding, changeEnding, endingOf, firstReply, phaseAfter, chainBy, chainAfter, placeAfter};
-ghost use Rattle.memory.specs.Memory.{stored};
+use access::Access;
 use board::Board;
 use board::Chain;
 use board::Phase;
 use board::Place;
-use command::Base;
 use command::Command;
 use command::Source;
 use command::Target;
 use memory::Fetch;
 use memory::Size;
-
-// What a command's access to memory found.
-pub enum Access {
-    NoAccess,
-    // The size, the value, and the pointer past it.
-    Fetched(Size, u32, u32),
-    // The pointer past it.
-    Stored(u32),
-    // Some byte of it lies beyond memory.
-    Missing,
-}
 
 // What a command's work ends in.
 pub enum Ending {
@@ -31,64 +18,6 @@ pub enum Ending {
     Failed,
     OneWord(u32),
     TwoWords(u32),
-}
-
-fn past_access(size: Size, address: u32) -> u32
-    ensures { λ r. ⌜ r ≡ past size address ⌝ }
-{
-    let at = memory::align(size, address) as u64;
-    let n = memory::byte_count(size) as u64;
-    ((at + n) % 0x100000000) as u32
-}
-
-fn fetch_access(memory: &[u8], size: Size, address: u32) -> Access
-    ensures { λ r. ⌜ r ≡ fetching (now (memory .entry)) size address ⌝ }
-{
-    let end = past_access(size, address);
-    match memory::fetch_at(memory, size, address) {
-        Fetch::Value(value) => Access::Fetched(size, value, end),
-        Fetch::BusError => Access::Missing,
-    }
-}
-
-fn store_access(memory: &mut [u8], size: Size, address: u32, value: u32) -> Access
-    ensures { λ r. ⌜ (r ≡ storing (now (memory .entry)) size address) × (now (memory .exit) ≡ stored (now (memory .entry)) size address value) ⌝ }
-{
-    if memory::store_at(memory, size, address, value) {
-        return Access::Stored(past_access(size, address));
-    }
-    Access::Missing
-}
-
-fn start(base: Base, pointer: u32, address: u32) -> u32
-    ensures { λ r. ⌜ r ≡ startOf base pointer address ⌝ }
-{
-    match base {
-        Base::Address => address,
-        Base::Pointer => pointer,
-    }
-}
-
-pub fn make_access(
-    memory: &mut [u8],
-    command: Command,
-    pointer: u32,
-    address: u32,
-    value: u32,
-) -> Access
-    ensures { λ r. ⌜ (r ≡ accessOf command (now (memory .entry)) pointer address)
-        × (now (memory .exit) ≡ memoryAfter command (now (memory .entry)) pointer address value) ⌝ }
-{
-    match command {
-        Command::Unknown => Access::NoAccess,
-        Command::Nop => Access::NoAccess,
-        Command::Load(size, base) => fetch_access(memory, size, start(base, pointer, address)),
-        Command::Store(size, base) => {
-            store_access(memory, size, start(base, pointer, address), value)
-        }
-        Command::Show(_) => Access::NoAccess,
-        Command::Change(_) => Access::NoAccess,
-    }
 }
 
 fn end_access(access: Access) -> Ending
@@ -133,13 +62,13 @@ pub fn find_ending(command: Command, board: Board, address: u32, access: Access)
         Command::Load(_, _) => end_access(access),
         Command::Store(_, _) => end_access(access),
         Command::Show(source) => match source {
-            Source::General(n) => Ending::TwoWords(registers::general_of(board, n as u32)),
-            Source::Control => end_shown(registers::fetch_control(board, address)),
-            Source::Csr => Ending::TwoWords(registers::csr_of(board)),
+            Source::General(n) => Ending::TwoWords(control::general_of(board, n as u32)),
+            Source::Control => end_shown(control::fetch_control(board, address)),
+            Source::Csr => Ending::TwoWords(csr::csr_of(board)),
         },
         Command::Change(target) => match target {
             Target::General(_) => Ending::Complete,
-            Target::Control => end_change(registers::is_listed(address)),
+            Target::Control => end_change(control::is_listed(address)),
             Target::Debug(_) => Ending::Complete,
             Target::Run => Ending::Complete,
             Target::Sync => Ending::Complete,
@@ -193,17 +122,6 @@ fn chain_after(ending: Ending, command: Command, chain: Chain) -> Chain
     }
 }
 
-fn pointer_after(access: Access, pointer: u32) -> u32
-    ensures { λ r. ⌜ r ≡ pointerAfter access pointer ⌝ }
-{
-    match access {
-        Access::NoAccess => pointer,
-        Access::Fetched(_, _, end) => end,
-        Access::Stored(end) => end,
-        Access::Missing => pointer,
-    }
-}
-
 pub fn settle(command: Command, place: Place, access: Access, ending: Ending) -> Place
     ensures { λ r. ⌜ r ≡ placeAfter command place access ending ⌝ }
 {
@@ -212,7 +130,7 @@ pub fn settle(command: Command, place: Place, access: Access, ending: Ending) ->
         place,
         phase_after(ending),
         chain_after(ending, command, chain),
-        pointer_after(access, place.pointer),
+        access::pointer_after(access, place.pointer),
         first_reply(ending),
     )
 }

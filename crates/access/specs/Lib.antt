@@ -1,0 +1,2 @@
+pub mod Access
+pub mod AccessLaws

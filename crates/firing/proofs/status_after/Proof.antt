@@ -1,0 +1,14 @@
+use Rattle.firing.specs.Firing.{statusAfter}
+use borrow.Author.Needs.{needs}
+use Rattle.firing.proofs.status_after.Statement.{statement}
+use Rattle.firing.proofs.status_after.Tie as tie
+
+is-ssm-requires : tie.Need-is-ssm-requires
+is-ssm-requires c κs = search needs
+
+returns : tie.Need-returns
+unfolding statusAfter
+returns c = rw (← c .before .before .before .is-ssm .ensures)
+
+pub status-after-spec : {M : Type 1} → statement M
+status-after-spec = tie.close (tie.spec is-ssm-requires returns)

@@ -1,0 +1,2 @@
+pub mod HelpText
+pub mod Heard

@@ -1,0 +1,2 @@
+pub mod PodSaid
+pub mod PodSaidLaws
