@@ -1,17 +1,12 @@
 // A conversation: line after line to the end of the input, each answered in one of the desk's languages before the next is read.
 ghost use Prim.Native.Nat.{_≤_, _<_};
 ghost use lib.ListN.{length, take};
-ghost use Rattle.conversation.specs.Course.{opening, ServedMeets, CourseMeets};
+ghost use Rattle.course.specs.Course.{opening, ServedMeets, CourseMeets};
 use answers::Bench;
 use console::Input;
 use console::Unread;
+use course::Served;
 use languages::Language;
-
-// The bench after a line, and whether it was the last.
-pub struct Served {
-    pub bench: Bench,
-    pub over: bool,
-}
 
 // One line's answer is written.
 fn serve(

@@ -9,8 +9,8 @@ use Rattle.board.specs.Board.{freshBoard, freshPlace}
 use Rattle.answers.specs.declared.Bench.{Bench}
 use Rattle.answers.specs.Bench.{Left, left, benchOf}
 use Rattle.morning_page.specs.MorningPage.{Check, checkOf, checksText, badFrom}
-use Rattle.script.specs.declared.Checked.{Checked}
-use Rattle.script.specs.Script.{lines, leaves, room, came}
+use Rattle.scripts.specs.declared.Checked.{Checked}
+use Rattle.scripts.specs.Script.{lines, leaves, room, came}
 use Rattle.listed.specs.Listed.{listedText}
 
 -- a check of the board's: `-` marks a line that prepares, `+` one whose answer is shown

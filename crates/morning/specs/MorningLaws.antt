@@ -15,8 +15,8 @@ use Rattle.morning_page.specs.MorningPage.{Check, checkOf, checkText, checksTex
 use Rattle.morning_page.specs.MorningPageLaws.{ending, good-said-all-due, all-due-good-said}
 use Rattle.morning_page.specs.MorningRoomLaws.{sizeOf, sizesOf, checks-length, verdict-length}
 use Rattle.listed.specs.Listed.{listedText}
-use Rattle.script.specs.declared.Checked.{Checked}
-use Rattle.script.specs.Script.{lines, leaves, shows, partedAfter, room, came, CheckedSo}
+use Rattle.scripts.specs.declared.Checked.{Checked}
+use Rattle.scripts.specs.Script.{lines, leaves, shows, partedAfter, room, came, CheckedSo}
 use Rattle.morning.specs.Morning.{Planned, checksOf, boards, p9Trace, p9, first, nine, unjudged, PagedSo}
 
 -- a check, and those after it

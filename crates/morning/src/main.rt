@@ -2,8 +2,8 @@
 use morning_page::Judged;
 use morning_page::put_check;
 use morning_page::put_verdict;
-use script::Checked;
 use script::check;
+use scripts::Checked;
 ghost use Rattle.text.specs.Text.{Puts};
 ghost use Rattle.answers.specs.Bench.{left};
 ghost use Rattle.morning_page.specs.MorningPage.{pageText, JudgedSo};

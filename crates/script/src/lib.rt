@@ -4,6 +4,8 @@ use answers::Answered;
 use answers::Bench;
 use languages::Language;
 use morning_page::put_check;
+use scripts::Checked;
+use scripts::Gone;
 ghost use mathlib.Core.Path.{_≡_};
 ghost use mathlib.Core.Bool.{false};
 ghost use mathlib.Core.List.{[], _∷_};
@@ -12,14 +14,7 @@ ghost use lib.ListN.{length, drop};
 ghost use Rattle.text.specs.Text.{Puts};
 ghost use Rattle.answers.specs.Bench.{left};
 ghost use Rattle.morning_page.specs.MorningPage.{checkOf};
-ghost use Rattle.script.specs.Script.{lines, lineLength, answerTo, leftBy, lineLeaves, lineShows, leaves, shows, gap, came, begun, Went, CheckedSo};
-
-// The bench after some lines, where what they showed ends in the text, and whether any was shown.
-pub struct Gone {
-    pub bench: Bench,
-    pub end: usize,
-    pub shown: bool,
-}
+ghost use Rattle.scripts.specs.Script.{lines, lineLength, answerTo, leftBy, lineLeaves, lineShows, leaves, shows, gap, came, begun, Went, CheckedSo};
 
 // Between what was shown and what comes next.
 fn put_gap(text: &mut [u8], at: usize, shown: bool) -> usize
@@ -119,13 +114,6 @@ fn take_lines(script: &[u8], bench: Bench, memory: &mut [u8], text: &mut [u8]) -
         from = end + 1;
     }
     gone
-}
-
-// The bench after some checks, where the page goes on, and how many of nine are bad.
-pub struct Checked {
-    pub bench: Bench,
-    pub end: usize,
-    pub bad: u32,
 }
 
 pub fn check(

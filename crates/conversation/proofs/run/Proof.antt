@@ -2,8 +2,8 @@ use Prim.Native.Nat.{_<_, _≤_}
 use lib.ListN.{length}
 use mathlib.Core.Path.{_≡_, refl, _∙_}
 use native.Mathlib.Omega.{arith}
-use Rattle.conversation.specs.Course.{opening}
-use Rattle.conversation.specs.CourseLaws.{Came, comes-to-begin, line-comes, quit-comes, last-comes, none-comes}
+use Rattle.course.specs.Course.{opening}
+use Rattle.course.specs.CourseLaws.{Came, comes-to-begin, line-comes, quit-comes, last-comes, none-comes}
 use borrow.Author.Needs.{needs}
 use Rattle.conversation.proofs.run.Statement.{statement}
 use Rattle.conversation.proofs.run.Tie as tie

@@ -3,8 +3,8 @@ use mathlib.Core.Path.{_≡_, refl}
 use native.Mathlib.Omega.{arith}
 use borrow.Author.Needs.{needs}
 use lib.ListN.{length, drop}
-use Rattle.script.specs.Script.{lineLength}
-use Rattle.script.specs.ScriptLaws.{line-stops, line-goes-on, line-out}
+use Rattle.scripts.specs.Script.{lineLength}
+use Rattle.scripts.specs.ScriptLaws.{line-stops, line-goes-on, line-out}
 use Rattle.script.proofs.line_end.Statement.{statement}
 use Rattle.script.proofs.line_end.Tie as tie
 

@@ -1,5 +1,5 @@
 use native.Mathlib.Omega.{arith}
-use Rattle.script.specs.ScriptLaws.{ends-in-rest, went-shown}
+use Rattle.scripts.specs.ScriptLaws.{ends-in-rest, went-shown}
 use borrow.Author.Needs.{needs}
 use Rattle.script.proofs.show.Statement.{statement}
 use Rattle.script.proofs.show.Tie as tie

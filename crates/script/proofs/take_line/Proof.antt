@@ -1,7 +1,7 @@
 use mathlib.Core.Path.{refl}
 use Rattle.text.specs.TextLaws.{nothing}
 use Rattle.answers.specs.Bench.{left}
-use Rattle.script.specs.ScriptLaws.{no-mark, shown-mark, other-mark, went-nowhere}
+use Rattle.scripts.specs.ScriptLaws.{no-mark, shown-mark, other-mark, went-nowhere}
 use borrow.Author.Needs.{needs}
 use Rattle.script.proofs.take_line.Statement.{statement}
 use Rattle.script.proofs.take_line.Tie as tie

@@ -1,10 +1,10 @@
-use Rattle.script.specs.ScriptLaws.{line-end-within}
+use Rattle.scripts.specs.ScriptLaws.{line-end-within}
 use Prim.Native.Nat.{_≤_, _-_}
 use mathlib.Core.Path.{_≡_, refl}
 use native.Mathlib.Omega.{arith}
 use borrow.Author.Needs.{needs}
 use lib.ListN.{length}
-use Rattle.script.specs.ScriptLaws.{ends-inside, Rests, rests-on, rests-out}
+use Rattle.scripts.specs.ScriptLaws.{ends-inside, Rests, rests-on, rests-out}
 use Rattle.script.proofs.take_lines.Statement.{statement}
 use Rattle.script.proofs.take_lines.Tie as tie
 

@@ -8,7 +8,7 @@ use Rattle.answers.specs.declared.Bench.{Bench}
 use Rattle.answers.specs.Bench.{Left, left, benchOf}
 use Rattle.console.specs.InputLines.{linesOf}
 use Rattle.languages.specs.declared.Language.{Language}
-use Rattle.conversation.specs.declared.Served.{Served}
+use Rattle.course.specs.declared.Served.{Served}
 use Rattle.common_lines.specs.CommonLines.{quits}
 use Rattle.languages.specs.Heard.{heard, after}
 

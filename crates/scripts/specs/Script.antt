@@ -12,8 +12,8 @@ use Rattle.answers.specs.Bench.{Left, left}
 use Rattle.languages.specs.declared.Language.the-variants.{Both}
 use Rattle.languages.specs.Heard.{heard, after, saidTo}
 use Rattle.morning_page.specs.MorningPage.{Check, checkOf, checkText, badAfter}
-use Rattle.script.specs.declared.Gone.{Gone}
-use Rattle.script.specs.declared.Checked.{Checked}
+use Rattle.scripts.specs.declared.Gone.{Gone}
+use Rattle.scripts.specs.declared.Checked.{Checked}
 
 -- the lines, each up to its line end
 abbrev pub lines : List ℕ → List (List ℕ)

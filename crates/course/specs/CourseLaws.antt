@@ -24,9 +24,9 @@ use Rattle.answers.specs.declared.Bench.{Bench}
 use Rattle.answers.specs.Bench.{Left, left, leaves}
 use Rattle.languages.specs.declared.Language.{Language}
 use Rattle.languages.specs.declared.Language.the-variants.{StandIn, Talk, Both, Pod}
-use Rattle.conversation.specs.declared.Served.{Served}
+use Rattle.course.specs.declared.Served.{Served}
 use Rattle.languages.specs.Heard.{heardOwn, heardAs, heard, after}
-use Rattle.conversation.specs.Course.{told, course, ServedMeets, CourseMeets}
+use Rattle.course.specs.Course.{told, course, ServedMeets, CourseMeets}
 
 -- a line that is silent or too long leaves all as it was, and does not quit
 silent-told : (language : Language) (line : List ℕ) (bench : Bench) (m : List ℕ) → kindOf line ≡ Silent

@@ -15,8 +15,8 @@ use Rattle.text.specs.Text.{Puts}
 use Rattle.text.specs.TextLaws.{_then_, nothing}
 use Rattle.answers.specs.declared.Bench.{Bench}
 use Rattle.answers.specs.Bench.{Left, left}
-use Rattle.script.specs.declared.Gone.{Gone}
-use Rattle.script.specs.Script.{lines, lineLength, answerTo, leftBy, lineLeaves, lineShows, leaves, shows, gap, partedAfter, shownAfter, room, Went}
+use Rattle.scripts.specs.declared.Gone.{Gone}
+use Rattle.scripts.specs.Script.{lines, lineLength, answerTo, leftBy, lineLeaves, lineShows, leaves, shows, gap, partedAfter, shownAfter, room, Went}
 
 -- a line ends at its line end, or where the script does
 pub line-stops : (script : List ℕ) (i : ℕ) → i < length script → getD script i 0 ≡ 10 → lineLength (drop i script) ≡ 0
