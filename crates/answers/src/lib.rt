@@ -1,7 +1,6 @@
-// The bench around the board: its lines answered, as the desk's language has them for stand_in and talk.
+// The bench around the board: what each line of the desk's language does to it, and is answered, for stand_in and talk.
 use board::Board;
 use board::Place;
-use board_lines::BoardLine;
 use comparators::BusAccess;
 use grounds::Verdict;
 use groups::Bus;
@@ -19,7 +18,7 @@ ghost use Rattle.grounds.specs.Grounds.{ifAccepted};
 ghost use Rattle.bus.specs.Events.{eventOutcome, boardAfterEvent, breakpointOutcome, boardAfterBreakpoint};
 ghost use Rattle.lent.specs.Lent.{zeros, fits, bytesPut};
 ghost use Rattle.answers.specs.Bench.{access, benchOf, left, stepped, overLent};
-ghost use Rattle.answers.specs.Said.{madeText, memoryText, bytesPutText, peekedText, packetOutcome, Answers, LineMeets};
+ghost use Rattle.answers.specs.Said.{madeText, memoryText, bytesPutText, peekedText, packetOutcome, Answers};
 
 // The board, the place, and how many bytes of memory are lent.
 pub struct Bench {
@@ -62,7 +61,7 @@ pub fn bench_after(board: Board, place: Place, lent: usize, end: usize) -> Answe
     }
 }
 
-fn make(w: u32, bench: Bench, text: &mut [u8]) -> Answered
+pub fn make(w: u32, bench: Bench, text: &mut [u8]) -> Answered
     ensures { λ r. ⌜ (r .bench ≡ ifAccepted (makingVerdict w) (benchOf (freshBoard w) freshPlace (bench .lent)) bench)
         × Puts (now (text .entry)) 0 (madeText (makingVerdict w)) (now (text .exit)) (r .end) ⌝ }
 {
@@ -82,7 +81,7 @@ fn make(w: u32, bench: Bench, text: &mut [u8]) -> Answered
     }
 }
 
-fn lend(n: u32, bench: Bench, memory: &mut [u8], text: &mut [u8]) -> Answered
+pub fn lend(n: u32, bench: Bench, memory: &mut [u8], text: &mut [u8]) -> Answered
     ensures { λ r. ⌜ Answers (left (benchOf (bench .board) (bench .place) n) (sets (now (memory .entry)) 0 (zeros n)))
         (memoryText n)
         (now (text .entry)) r (now (memory .exit)) (now (text .exit)) ⌝ }
@@ -96,7 +95,7 @@ fn lend(n: u32, bench: Bench, memory: &mut [u8], text: &mut [u8]) -> Answered
     bench_after(board, place, count, end)
 }
 
-fn put_bytes(
+pub fn put_bytes(
     line: &[u8],
     address: u32,
     start: usize,
@@ -122,7 +121,13 @@ fn put_bytes(
     }
 }
 
-fn show_bytes(address: u32, count: u32, bench: Bench, memory: &[u8], text: &mut [u8]) -> Answered
+pub fn show_bytes(
+    address: u32,
+    count: u32,
+    bench: Bench,
+    memory: &[u8],
+    text: &mut [u8],
+) -> Answered
     ensures { λ r. ⌜ (r .bench ≡ bench)
         × Puts (now (text .entry)) 0 (peekedText (fits address count (bench .lent)) (now (memory .entry)) address count)
         (now (text .exit)) (r .end) ⌝ }
@@ -154,7 +159,7 @@ fn take_word(word: u32, bench: Bench, memory: &mut [u8], text: &mut [u8]) -> Ans
     bench_after(board_next, place_next, bench.lent, end)
 }
 
-fn watch(event: Event, bench: Bench, text: &mut [u8]) -> Answered
+pub fn watch(event: Event, bench: Bench, text: &mut [u8]) -> Answered
     ensures { λ r. ⌜ (r .bench ≡ benchOf (boardAfterEvent (bench .board) (bench .place) event) (bench .place) (bench .lent))
         × Puts (now (text .entry)) 0 (eventText (eventOutcome (bench .board) (bench .place) event)) (now (text .exit)) (r .end) ⌝ }
 {
@@ -167,7 +172,7 @@ fn watch(event: Event, bench: Bench, text: &mut [u8]) -> Answered
     bench_after(board_next, place, bench.lent, end)
 }
 
-fn press(bench: Bench, text: &mut [u8]) -> Answered
+pub fn press(bench: Bench, text: &mut [u8]) -> Answered
     ensures { λ r. ⌜ (r .bench ≡ benchOf (boardAfterBreakpoint (bench .board) (bench .place)) (bench .place) (bench .lent))
         × Puts (now (text .entry)) 0 (breakpointText (breakpointOutcome (bench .board) (bench .place))) (now (text .exit)) (r .end) ⌝ }
 {
@@ -180,7 +185,7 @@ fn press(bench: Bench, text: &mut [u8]) -> Answered
     bench_after(board_next, place, bench.lent, end)
 }
 
-fn tell_state(bench: Bench, text: &mut [u8]) -> Answered
+pub fn tell_state(bench: Bench, text: &mut [u8]) -> Answered
     ensures { λ r. ⌜ (r .bench ≡ bench) × Puts (now (text .entry)) 0 (stateText (bench .board) (bench .place)) (now (text .exit)) (r .end) ⌝ }
 {
     let board = bench.board;
@@ -191,7 +196,7 @@ fn tell_state(bench: Bench, text: &mut [u8]) -> Answered
     }
 }
 
-fn carrying(pc: u32, address: u32, attribute: u32, lanes: u32) -> Event
+pub fn carrying(pc: u32, address: u32, attribute: u32, lanes: u32) -> Event
     ensures { λ r. ⌜ r ≡ access pc address attribute lanes ⌝ }
 {
     Event {
@@ -204,54 +209,11 @@ fn carrying(pc: u32, address: u32, attribute: u32, lanes: u32) -> Event
     }
 }
 
-fn packet_line(word: u32, bench: Bench, memory: &mut [u8], text: &mut [u8]) -> Answered
+pub fn packet_line(word: u32, bench: Bench, memory: &mut [u8], text: &mut [u8]) -> Answered
     ensures { λ r. ⌜ Answers (overLent (stepped word) bench (now (memory .entry)))
         (packetText (packetOutcome word bench (take (bench .lent) (now (memory .entry)))))
         (now (text .entry)) r (now (memory .exit)) (now (text .exit)) ⌝ }
 {
     let n = lent::lent_of(bench.lent, memory.len());
     take_word(word, bench, &mut memory[..n], text)
-}
-
-// The answer to a line of the board's, put at the front of the text.
-pub fn answer_line(
-    line: &[u8],
-    asked: BoardLine,
-    bench: Bench,
-    memory: &mut [u8],
-    text: &mut [u8],
-) -> Answered
-    ensures { λ r. ⌜ LineMeets (now (line .entry)) asked bench (now (memory .entry)) (now (text .entry))
-        r (now (memory .exit)) (now (text .exit)) ⌝ }
-{
-    match asked {
-        BoardLine::Nothing => Answered {
-            bench: bench,
-            end: 0,
-        },
-        BoardLine::Make(w) => make(w, bench, text),
-        BoardLine::Memory(n) => lend(n, bench, memory, text),
-        BoardLine::Bytes(address, start, count) => {
-            put_bytes(line, address, start, count, bench, memory, text)
-        }
-        BoardLine::Packet(word) => packet_line(word, bench, memory, text),
-        BoardLine::Event(pc) => watch(
-            Event {
-                pc: pc,
-                bus: Bus::Idle,
-            },
-            bench,
-            text,
-        ),
-        BoardLine::EventWithAccess(pc, address, attribute, lanes) => {
-            watch(carrying(pc, address, attribute, lanes), bench, text)
-        }
-        BoardLine::Breakpoint => press(bench, text),
-        BoardLine::Peek(address, count) => show_bytes(address, count, bench, memory, text),
-        BoardLine::State => tell_state(bench, text),
-        BoardLine::Unclear => Answered {
-            bench: bench,
-            end: put_unclear(text),
-        },
-    }
 }

@@ -11,7 +11,8 @@ use Rattle.talk_lines.specs.TalkLines.{eitherLine, talkLine}
 use Rattle.answers.specs.declared.Bench.{Bench}
 use Rattle.answers.specs.Bench.{Left, left, overLent, leaves}
 use Rattle.answers.specs.declared.Answered.{Answered}
-use Rattle.answers.specs.Said.{said, Answers}
+use Rattle.answers.specs.Said.{Answers}
+use Rattle.line_answers.specs.LineSaid.{said}
 use Rattle.asking.specs.Asking.{exchanged, exchangeSaid}
 use Rattle.pod_answers.specs.PodSaid.{podSaid}
 use Rattle.languages.specs.HelpText.{helpText, byeText}

@@ -61,7 +61,7 @@ fn answer_of_bench(
         r (now (memory .exit)) (now (text .exit)) ⌝ }
 {
     match asked {
-        TalkLine::Board(asked) => answers::answer_line(line, asked, bench, memory, text),
+        TalkLine::Board(asked) => line_answers::answer_line(line, asked, bench, memory, text),
         TalkLine::Ask(request) => asking::ask(request, bench, memory, text),
     }
 }

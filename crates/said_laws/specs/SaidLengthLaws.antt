@@ -43,7 +43,8 @@ use Rattle.replies.specs.ReplyText.{packetText, capturedText, eventText, breakp
 use Rattle.state_line.specs.StateText.{bitOf, registersText, phaseText, chainText, stateText}
 use Rattle.answers.specs.declared.Bench.{Bench}
 use Rattle.answers.specs.Bench.{start, access}
-use Rattle.answers.specs.Said.{madeText, bytesPutText, peekedText, packetOutcome, said}
+use Rattle.answers.specs.Said.{madeText, bytesPutText, peekedText, packetOutcome}
+use Rattle.line_answers.specs.LineSaid.{said}
 use Rattle.asking.specs.Asking.{exchangedText}
 
 width-most : (base n more k : ℕ) → widthFrom base n more k ≤ k + more

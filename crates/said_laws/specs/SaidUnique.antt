@@ -38,7 +38,8 @@ use Rattle.text_laws.specs.ToldUnique.{packet-text-unique}
 use Rattle.answers.specs.declared.Bench.{Bench}
 use Rattle.answers.specs.declared.Answered.{Answered}
 use Rattle.answers.specs.Bench.{Left, portState}
-use Rattle.answers.specs.Said.{said, Answers}
+use Rattle.answers.specs.Said.{Answers}
+use Rattle.line_answers.specs.LineSaid.{said}
 use Rattle.text_laws.specs.TextUnique.{puts-unique}
 use Rattle.answers.specs.SaidLaws.{packet-outcome}
 use Rattle.asking.specs.Asking.{exchangedText, exchangeSaid}

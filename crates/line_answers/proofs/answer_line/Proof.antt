@@ -1,10 +1,10 @@
 use Rattle.text.specs.TextLaws.{nothing}
 use Rattle.answers.specs.Bench.{leaves}
-use Rattle.answers.specs.Said.{said}
+use Rattle.line_answers.specs.LineSaid.{said}
 use mathlib.Core.Path.{refl}
 use borrow.Author.Needs.{needs}
-use Rattle.answers.proofs.answer_line.Statement.{statement}
-use Rattle.answers.proofs.answer_line.Tie as tie
+use Rattle.line_answers.proofs.answer_line.Statement.{statement}
+use Rattle.line_answers.proofs.answer_line.Tie as tie
 
 enum-told : tie.Need-enum-told
 enum-told c = search needs
