@@ -4,3 +4,5 @@ pub mod Holding
 pub mod HoldingLaws
 pub mod LineReading
 pub mod LineReadingLaws
+pub mod LineWriting
+pub mod LineWritingLaws

@@ -2,9 +2,11 @@
 ghost use Prim.Native.Nat.{_≤_, min};
 ghost use mathlib.Core.Path.{_≡_};
 ghost use lib.ListN.{length, take};
+ghost use Rattle.text.specs.Text.{written};
 ghost use Rattle.console.specs.InputLines.{isLineEnd};
 ghost use Rattle.console.specs.Holding.{held};
 ghost use Rattle.console.specs.LineReading.{CutMeets, NextMeets, unreadOf};
+ghost use Rattle.console.specs.LineWriting.{lineEnd};
 use libc::STDIN_FILENO;
 use libc::STDOUT_FILENO;
 
@@ -158,7 +160,9 @@ pub fn write(text: &[u8], end: usize) {
 }
 
 // Writes the text up to a place, and a line end.
-pub fn say(text: &mut [u8], at: usize) {
+pub fn say(text: &mut [u8], at: usize)
+    ensures { λ _. ⌜ now (text .exit) ≡ written (now (text .entry)) at lineEnd ⌝ }
+{
     let end = text::put_byte(text, at, b'\n');
     write(text, end);
 }

@@ -21,7 +21,7 @@ pub record Shown : Type 0 where
   pub slash : fromOf (0x31 ∷ 0x32 ∷ 0x38 ∷ 0x2F ∷ []) ≡ Unclear
 
 pub shown : Shown
-unfolding decimal
+unfolding decimal fromOf
 shown =
     record {
       first = refl;

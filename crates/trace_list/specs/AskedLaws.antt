@@ -1,14 +1,17 @@
 -- Laws of FROM's word: one byte after the other.
 use mathlib.Core.Path.{_≡_, refl, ap, _∙_}
-use Prim.Native.Nat.{ℕ, _+_, _-_, _*_, _≤_, _<_}
+use Prim.Native.Nat.{ℕ, _+_, _-_, _*_, _%_, _≤_, _<_}
+use mathlib.Core.Bool.{Bool, true, false, cond}
 use mathlib.Core.List.{List, [], _∷_}
 use native.Mathlib.Numerals.{add-one}
 use native.Mathlib.Omega.{arith}
+use lib.Dec.{eqb}
 use lib.ListN.{length, getD, drop, drop-of-length-le}
 use lib.Seq.{drop-cons}
-use borrow.Author.Tests.{lt-ltb, le-ltb}
-use Rattle.trace_list.specs.declared.asked.Asked.the-variants.{From, Unclear}
-use Rattle.trace_list.specs.Asked.{decimal, multiple, fromOf}
+use borrow.Author.Tests.{lt-ltb, le-ltb, eqb-true}
+use Rattle.trace_list.specs.declared.asked.Asked.{Asked}
+use Rattle.trace_list.specs.declared.asked.Asked.the-variants.{Whole, From, Unclear}
+use Rattle.trace_list.specs.Asked.{decimal, multiple, fromOf, AskedMeets, none, one, more}
 
 -- the bytes from a place on, by the first of them
 module _ (word : List ℕ) (n i : ℕ) (h : i < length word) where
@@ -39,9 +42,31 @@ no-byte-left word n i h = ap (decimal n) (drop-of-length-le word h)
 
 -- a word with a byte is its number, where that is a multiple
 pub some-word : (word : List ℕ) → (length word ≡ 0 → ⊥) → fromOf word ≡ multiple (decimal 0 word)
+unfolding fromOf
 some-word [] h = absurd (h refl)
 some-word (byte ∷ bytes) h = refl
 
 pub no-word : (word : List ℕ) → length word ≡ 0 → fromOf word ≡ Unclear
+unfolding fromOf
 no-word [] e = refl
 no-word (byte ∷ bytes) e = absurd (omega (arith, e))
+
+-- so that a cycle that is asked for is a multiple of 256
+multiple-so : (asked : Asked) (cycle : ℕ) → multiple asked ≡ From cycle → cycle % 256 ≡ 0
+multiple-so Whole cycle e = let z : _≡_ {A = ℕ} 0 1 = cc in absurd (omega arith)
+multiple-so Unclear cycle e = let z : _≡_ {A = ℕ} 0 1 = cc in absurd (omega arith)
+multiple-so (From n) cycle e = by-test (eqb (n % 256) 0) refl e
+  where
+    by-test : (t : Bool) → eqb (n % 256) 0 ≡ t → cond t (From n) Unclear ≡ From cycle → cycle % 256 ≡ 0
+    by-test true p e = let same : n ≡ cycle = cc in rw (← same) (eqb-true (n % 256) 0 p)
+    by-test false p e = let z : _≡_ {A = ℕ} 0 1 = cc in absurd (omega arith)
+
+pub from-multiple : (word : List ℕ) (cycle : ℕ) → fromOf word ≡ From cycle → cycle % 256 ≡ 0
+unfolding fromOf
+from-multiple [] cycle e = let z : _≡_ {A = ℕ} 0 1 = cc in absurd (omega arith)
+from-multiple (byte ∷ bytes) cycle e = multiple-so (decimal 0 (byte ∷ bytes)) cycle e
+
+pub asked-multiple : {asked : Asked} → AskedMeets asked → (cycle : ℕ) → asked ≡ From cycle → cycle % 256 ≡ 0
+asked-multiple none cycle e = let z : _≡_ {A = ℕ} 0 1 = cc in absurd (omega arith)
+asked-multiple (one word) cycle e = from-multiple word cycle e
+asked-multiple more cycle e = let z : _≡_ {A = ℕ} 0 1 = cc in absurd (omega arith)

@@ -1,3 +1,4 @@
+use Rattle.trace_list.specs.GatheringLaws.{listed-refused, listed-all, listed-head}
 use lib.Seq.{length-take-le}
 use mathlib.Core.Path.{sym}
 use borrow.Author.Needs.{needs}
@@ -29,19 +30,31 @@ same-length : tie.Need-same-length
 same-length c = search needs
 
 returns : tie.Need-returns
-returns c = search needs
+returns c =
+    let a = c .before .before .before .before .before .before .before .before .before .args in
+    listed-refused (a .text .now) (a .words .now) (a .cycles) (a .listed) _ _ (c .before .before .before .before .before .listed .given .1) (c .before .before .say-refusal .ensures)
 
 same-length-2 : tie.Need-same-length-2
 same-length-2 c = search needs
 
 returns-2 : tie.Need-returns-2
-returns-2 c = search needs
+returns-2 c =
+    let a = c .before .before .before .before .before .before .before .before .before .before .before .before .before .before .before .args in
+    listed-all (a .text .now) (a .words .now) (a .cycles) (a .listed) _
+    (c .before .before .before .before .before .before .before .before .before .before .before .listed2 .given .1)
+    (c .before .before .before .before .before .before .before .before .say-head .ensures)
+    (c .before .before .before .before .before .if1 .taken)
+    (c .before .before .write-items .ensures)
 
 same-length-3 : tie.Need-same-length-3
 same-length-3 c = search needs
 
 returns-3 : tie.Need-returns-3
-returns-3 c = search needs
+returns-3 c =
+    let a = c .before .before .before .before .before .before .before .before .before .before .args in
+    listed-head (a .text .now) (a .words .now) (a .cycles) (a .listed) _
+    (c .before .before .before .before .before .before .listed2 .given .1)
+    (c .before .before .before .say-head .ensures) (c .if1 .left)
 
 pub write-listing-spec : {M : Type 1} → statement M
 write-listing-spec =

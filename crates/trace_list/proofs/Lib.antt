@@ -1,0 +1,2 @@
+-- What the proofs of several functions use.
+pub mod NoItem

@@ -1,0 +1,100 @@
+-- Laws of the parts written out: they are the lister's lines, none left out, none twice, and none of them is cut.
+use Prim.Native.Nat.{ℕ, zero, suc, _+_, _/_, _%_, _^_, _≤_, _<_}
+use mathlib.Core.Path.{_≡_, refl, ap, _∙_}
+use mathlib.Core.Bool.{Bool, true, false, cond}
+use mathlib.Core.List.{List, [], _∷_, _++_, append-assoc}
+use native.Mathlib.Omega.{arith}
+use lib.Dec.{ltb}
+use lib.ListN.{length, length-append}
+use borrow.Author.Tests.{ltb-true}
+use Rattle.cycle.specs.declared.Item.{Item}
+use Rattle.trace.specs.Items.{items, words}
+use Rattle.trace.specs.TraceReading.{Told, refusal, counted, reading}
+use Rattle.text.specs.NumberText.{digitsText, widthFrom, width, decimalText}
+use Rattle.trace_list.specs.ListerLines.{itemLine, itemLines, refusedLine, headLine, linesBy, wholeLines}
+use Rattle.trace_list.specs.GatheringMirror.{partsFrom, partsBy, wholeParts}
+
+-- all of some texts, one behind the other
+abbrev pub joined : List (List ℕ) → List ℕ
+joined [] = []
+joined (text ∷ texts) = text ++ joined texts
+
+-- THE LAW: the parts written out, one behind the other, are the lines, one behind the other
+pub parts-joined : (room : ℕ) (part : List ℕ) (lines : List (List ℕ)) → joined (partsFrom room part lines) ≡ part ++ joined lines
+parts-joined room part [] = refl
+parts-joined room part (line ∷ lines) = by-test (λ l. parts-joined room l lines) (ltb (length part) (room / 2))
+  where
+    by-test : ((l : List ℕ) → joined (partsFrom room l lines) ≡ l ++ joined lines) → (t : Bool)
+        → joined (cond t (partsFrom room (part ++ line) lines) (part ∷ partsFrom room line lines)) ≡ part ++ (line ++ joined lines)
+    by-test on true = on (part ++ line) ∙ append-assoc part line (joined lines)
+    by-test on false = ap (λ (l : List ℕ). part ++ l) (on line)
+
+abbrev pub EachWithin : ℕ → List (List ℕ) → Type 0
+EachWithin most [] = Unit
+EachWithin most (text ∷ texts) = (length text ≤ most) × EachWithin most texts
+
+-- and none of them is cut, where no line is longer than half of the text
+pub parts-within : (room : ℕ) (part : List ℕ) (lines : List (List ℕ)) → length part ≤ room → EachWithin (room / 2) lines
+    → EachWithin room (partsFrom room part lines)
+parts-within room part [] h e = (h, tt)
+parts-within room part (line ∷ lines) h e = by-test (λ l k. parts-within room l lines k (e .1)) (ltb (length part) (room / 2)) refl
+  where
+    by-test : ((l : List ℕ) → length l ≤ room → EachWithin room (partsFrom room l lines)) → (t : Bool) → ltb (length part) (room / 2) ≡ t
+        → EachWithin room (cond t (partsFrom room (part ++ line) lines) (part ∷ partsFrom room line lines))
+    by-test on true f =
+        let used : length part < room / 2 = ltb-true _ _ f in
+        on (part ++ line) (simp length-append (omega (arith, e .0)))
+    by-test on false f = (h, on line (omega (arith, e .0)))
+
+pub told-joined : (room cycles : ℕ) (xs : List Item) (told : Told) → joined (partsBy room cycles xs told) ≡ joined (linesBy cycles xs told)
+told-joined room cycles xs (refusal number cycle) = refl
+told-joined room cycles xs (counted n) = ap (λ (l : List ℕ). headLine cycles n ++ l) (parts-joined room [] (itemLines (words xs)))
+
+-- THE LAW of a whole trace: what is written out is its lines
+pub whole-joined : (room : ℕ) (trace : List ℕ) → joined (wholeParts room trace) ≡ joined (wholeLines trace)
+whole-joined room trace = told-joined room (length trace) (items trace) (reading trace)
+
+-- how long a line is
+width-most : (base n more k : ℕ) → widthFrom base n more k ≤ k + more
+unfolding widthFrom
+width-most base n zero k = omega arith
+width-most base n (suc more) k = by-test (ltb n (base ^ k)) (width-most base n more (suc k))
+  where
+    by-test : (t : Bool) → widthFrom base n more (suc k) ≤ suc k + more → cond t k (widthFrom base n more (suc k)) ≤ k + suc more
+    by-test true next = omega arith
+    by-test false next = omega arith
+
+digits-length : (base k n : ℕ) → length (digitsText base k n) ≡ k
+unfolding digitsText
+digits-length base zero n = refl
+digits-length base (suc k) n = ap suc (digits-length base k n)
+
+decimal-length : (n : ℕ) → length (decimalText n) ≤ 20
+decimal-length n = omega (arith, digits-length 10 (width 10 n) n, width-most 10 n 19 1)
+
+refused-length : (number cycle : ℕ) → length (refusedLine number cycle) ≤ 64
+refused-length number cycle = simp length-append (omega (arith, decimal-length number, decimal-length cycle))
+
+head-length : (cycles count : ℕ) → length (headLine cycles count) ≤ 64
+head-length cycles count = simp length-append (omega (arith, decimal-length cycles, decimal-length count))
+
+item-length : (word value : ℕ) → length (itemLine word value) ≤ 64
+item-length word value =
+    let code = decimal-length (word % 16) in
+    simp length-append (omega (arith, decimal-length (word / 16), code, decimal-length value))
+
+items-within : (most : ℕ) → 64 ≤ most → (ws : List ℕ) → EachWithin most (itemLines ws)
+items-within most h [] = tt
+items-within most h (word ∷ []) = tt
+items-within most h (word ∷ value ∷ more) = (omega (arith, item-length word value), items-within most h more)
+
+-- and each part has room in a text of 128 bytes or more; the lister lends 16,384
+pub told-within : (room cycles : ℕ) (xs : List Item) (told : Told) → 128 ≤ room → EachWithin room (partsBy room cycles xs told)
+told-within room cycles xs (refusal number cycle) h = (omega (arith, refused-length number cycle), tt)
+told-within room cycles xs (counted n) h = (
+  omega (arith, head-length cycles n),
+  parts-within room [] (itemLines (words xs)) (omega arith) (items-within (room / 2) (omega arith) (words xs)),
+)
+
+pub whole-within : (room : ℕ) (trace : List ℕ) → 128 ≤ room → EachWithin room (wholeParts room trace)
+whole-within room trace h = told-within room (length trace) (items trace) (reading trace) h
