@@ -16,7 +16,8 @@ fn serve(
     memory: &mut [u8],
     text: &mut [u8],
 ) -> Served
-    ensures { λ r. ⌜ ServedMeets language (now (line .entry)) bench (now (memory .entry)) r (now (memory .exit)) ⌝ }
+    ensures { λ r. ⌜ ServedMeets language (now (line .entry)) bench (now (memory .entry)) (now (text .entry))
+        r (now (memory .exit)) (now (text .exit)) ⌝ }
 {
     let over = common_lines::is_quit(line);
     let answered = languages::answer(language, line, bench, memory, text);
@@ -45,7 +46,8 @@ fn serve_front(
     text: &mut [u8],
 ) -> Served
     requires { ⌜ held ≤ length (now line) ⌝ }
-    ensures { λ r. ⌜ ServedMeets language (take held (now (line .entry))) bench (now (memory .entry)) r (now (memory .exit)) ⌝ }
+    ensures { λ r. ⌜ ServedMeets language (take held (now (line .entry))) bench (now (memory .entry)) (now (text .entry))
+        r (now (memory .exit)) (now (text .exit)) ⌝ }
 {
     serve(language, &line[..held], bench, memory, text)
 }
@@ -59,7 +61,7 @@ fn run(
     memory: &mut [u8],
 ) -> Bench
     requires { ⌜ 4096 < length (now line) ⌝ }
-    ensures { λ r. ⌜ CourseMeets language opening (now (memory .entry)) r (now (memory .exit)) ⌝ }
+    ensures { λ r. ⌜ CourseMeets language opening (now (memory .entry)) (now (text .entry)) r (now (memory .exit)) (now (text .exit)) ⌝ }
 {
     let mut bench = answers::opened();
     let mut unread = Unread { at: 0, end: 0 };

@@ -2,15 +2,16 @@
 use Prim.Native.Nat.{ℕ}
 use mathlib.Core.Path.{_≡_}
 use mathlib.Core.Bool.{cond}
-use mathlib.Core.List.{List, [], _∷_}
+use mathlib.Core.List.{List, [], _∷_, _++_}
 use Rattle.board.specs.Board.{freshBoard, freshPlace}
 use Rattle.answers.specs.declared.Bench.{Bench}
 use Rattle.answers.specs.Bench.{Left, left, benchOf}
 use Rattle.console.specs.InputLines.{linesOf}
+use Rattle.console.specs.LineWriting.{lineEnd, laid}
 use Rattle.languages.specs.declared.Language.{Language}
 use Rattle.course.specs.declared.Served.{Served}
 use Rattle.common_lines.specs.CommonLines.{quits}
-use Rattle.languages.specs.Heard.{heard, after}
+use Rattle.languages.specs.Heard.{heard, after, saidTo}
 
 -- "Starts as `make 0` with no memory."
 abbrev pub opening : Bench
@@ -26,14 +27,33 @@ course language [] bench m = left bench m
 course language (line ∷ lines) bench m =
     cond (quits line) (left bench m) (course language lines (told language line bench m .bench) (told language line bench m .memory))
 
--- the promise of one line
-pub record ServedMeets (language : Language) (line : List ℕ) (bench : Bench) (m : List ℕ) (r : Served) (after : List ℕ) : Type 0 where
+-- what is said to a line of a language
+abbrev pub toldText : Language → List ℕ → Bench → List ℕ → List ℕ
+toldText language line bench m = saidTo line (heard language line) bench m
+
+-- "One answer line": with its line end, and none where nothing is said
+abbrev pub answerLine : List ℕ → List (List ℕ)
+answerLine [] = []
+answerLine (byte ∷ text) = (byte ∷ text ++ lineEnd) ∷ []
+
+-- "One answer line for each input line": what is said to lines, in their order, each on what the lines before it left, up to `quit`
+abbrev pub answerLines : Language → List (List ℕ) → Bench → List ℕ → List (List ℕ)
+answerLines language [] bench m = []
+answerLines language (line ∷ lines) bench m =
+    answerLine (toldText language line bench m)
+    ++ cond (quits line) [] (answerLines language lines (told language line bench m .bench) (told language line bench m .memory))
+
+-- the promise of one line: what it leaves, and its answer at the front of the text
+pub record ServedMeets (language : Language) (line : List ℕ) (bench : Bench) (m buffer : List ℕ) (r : Served) (after text : List ℕ) : Type 0 where
   pub board : r .bench ≡ told language line bench m .bench
   pub memory : after ≡ told language line bench m .memory
   pub over : r .over ≡ quits line
+  pub said : text ≡ laid buffer (answerLine (toldText language line bench m))
 
--- the promise of a conversation: the lines of some input, the bytes that reads have brought, were served in their order
-pub record CourseMeets (language : Language) (bench : Bench) (m : List ℕ) (r : Bench) (after : List ℕ) : Type 0 where
+-- the promise of a conversation: the lines of some input, the bytes that reads have brought, were served in their order, and their answers were put at the
+-- front of the text in that order
+pub record CourseMeets (language : Language) (bench : Bench) (m buffer : List ℕ) (r : Bench) (after text : List ℕ) : Type 0 where
   pub input : List ℕ
   pub board : r ≡ course language (linesOf input) bench m .bench
   pub memory : after ≡ course language (linesOf input) bench m .memory
+  pub said : text ≡ laid buffer (answerLines language (linesOf input) bench m)

@@ -1,11 +1,12 @@
--- Laws of how long an answer is: a text of 4,096 bytes, as the programs lend it, has room for every answer to a line of the board's and to a request.
+-- Laws of how long an answer is: at most 4,095 bytes, so that a text of 4,096, as the programs lend it, has room for it and its line end.
 use Prim.Native.Nat.{ℕ, zero, suc, _+_, _*_, _^_, _≤_}
 use mathlib.Core.Path.{_≡_, refl}
 use mathlib.Core.Bool.{Bool, true, false, cond}
-use mathlib.Core.List.{List}
+use mathlib.Core.List.{List, [], _∷_}
 use native.Mathlib.Omega.{arith}
 use lib.Dec.{ltb}
 use lib.ListN.{length, getD, take, length-append}
+use borrow.Author.Tests.{leb-true}
 use Rattle.grounds.specs.declared.Ground.{Ground}
 use Rattle.grounds.specs.declared.Verdict.{Verdict}
 use Rattle.grounds.specs.declared.Verdict.the-variants.{Accepted, Refused}
@@ -32,12 +33,23 @@ use Rattle.board_lines.specs.declared.BoardLine.the-variants.{Nothing, Make, Me
 use Rattle.board_lines.specs.declared.BoardLine.the-variants.{EventWithAccess, Breakpoint, Peek, State, Unclear}
 use Rattle.readings.specs.declared.Outcome.{Outcome as Closing}
 use Rattle.readings.specs.declared.Outcome.the-variants.{Value, Complete, BusError, Illegal}
+use Rattle.readings.specs.declared.Reading.{Reading}
+use Rattle.readings.specs.declared.Reading.the-variants.{Ended as EndedThere, NotYet, Refused as RefusedToRead}
+use Rattle.readings.specs.Reading.{reading}
+use Rattle.requests.specs.declared.Request.{Request}
+use Rattle.building.specs.RequestWords.{builtWords}
+use Rattle.building.specs.Building.{buildingVerdict}
+use Rattle.pod_laws.specs.RequestCountLaws.{word-count-bound}
+use Rattle.pod_lines.specs.declared.Taken.{Taken}
+use Rattle.pod_lines.specs.declared.Taken.the-variants.{Count, TooMany, NotAllNumbers}
+use Rattle.pod_lines.specs.Taking.{values, counted, taken}
+use Rattle.pod_lines.specs.PodLines.{Meaning, nothing, builds, reads, unclear}
 use Rattle.exchange.specs.declared.Exchanged.{Exchanged}
 use Rattle.exchange.specs.declared.Exchanged.the-variants.{Ended, Refused as RefusedToExchange}
 use Rattle.text.specs.Text.{flagText}
 use Rattle.text.specs.NumberText.{digitsText, widthFrom, width, numberText, decimalText}
 use Rattle.refusal_text.specs.RefusalText.{refusedAt}
-use Rattle.request_text.specs.RequestText.{outcomeText}
+use Rattle.request_text.specs.RequestText.{outcomeText, eachWord, readingText}
 use Rattle.text_laws.specs.ReadBackLaws.{digits-length}
 use Rattle.replies.specs.ReplyText.{packetText, capturedText, eventText, breakpointText, bytesText}
 use Rattle.state_line.specs.StateText.{bitOf, registersText, phaseText, chainText, stateText}
@@ -46,6 +58,11 @@ use Rattle.answers.specs.Bench.{start, access}
 use Rattle.answers.specs.Said.{madeText, bytesPutText, peekedText, packetOutcome}
 use Rattle.line_answers.specs.LineSaid.{said}
 use Rattle.asking.specs.Asking.{exchangedText}
+use Rattle.languages.specs.declared.Language.{Language}
+use Rattle.languages.specs.declared.Language.the-variants.{StandIn, Talk, Both, Pod}
+use Rattle.languages.specs.HelpText.{helpText}
+use Rattle.pod_answers.specs.PodSaid.{builtBy, readText, podText}
+use Rattle.said_laws.specs.FitLineLaws.{Fit}
 
 width-most : (base n more k : ℕ) → widthFrom base n more k ≤ k + more
 unfolding widthFrom
@@ -122,34 +139,66 @@ bytes-put-length : (fitting : Bool) (n : ℕ) → length (bytesPutText fitting n
 bytes-put-length true n = simp length-append (omega (arith, number-length n))
 bytes-put-length false n = omega arith
 
-peeked-length : (fitting : Bool) (m : List ℕ) (address n : ℕ) → n ≤ 0x400 → length (peekedText fitting m address n) ≤ 4096
+peeked-length : (fitting : Bool) (m : List ℕ) (address n : ℕ) → n ≤ 0x400 → length (peekedText fitting m address n) ≤ 4095
 peeked-length true m address n h = simp length-append (omega (arith, bytes-length m address n))
 peeked-length false m address n h = omega arith
 
--- every answer to a line of the board's, where `peek` shows "N from 1 to 400" bytes
-pub said-length : (line : List ℕ) (asked : BoardLine) (bench : Bench) (m : List ℕ) → ((address count : ℕ) → asked ≡ Peek address count → count ≤ 0x400)
-    → length (said line asked bench m) ≤ 4096
+-- every answer to a line of the board's that is no silent one
+pub said-length : (line : List ℕ) (asked : BoardLine) (bench : Bench) (m : List ℕ) → Fit asked → length (said line asked bench m) ≤ 4095
 unfolding said
-said-length line Nothing bench m shown = omega arith
-said-length line (Make w) bench m shown = omega (arith, made-length (makingVerdict w))
-said-length line (Memory n) bench m shown = simp length-append (omega (arith, number-length n))
-said-length line (Bytes address from count) bench m shown = omega (arith, bytes-put-length (fits address count (bench .lent)) count)
-said-length line (Packet word) bench m shown = omega (arith, packet-length (packetOutcome word bench (take (bench .lent) m)))
-said-length line (EventLine pc) bench m shown = omega (arith, event-length (eventOutcome (bench .board) (bench .place) (start pc)))
-said-length line (EventWithAccess pc address attribute lanes) bench m shown =
+said-length line Nothing bench m f = absurd f
+said-length line (Make w) bench m f = omega (arith, made-length (makingVerdict w))
+said-length line (Memory n) bench m f = simp length-append (omega (arith, number-length n))
+said-length line (Bytes address from count) bench m f = omega (arith, bytes-put-length (fits address count (bench .lent)) count)
+said-length line (Packet word) bench m f = omega (arith, packet-length (packetOutcome word bench (take (bench .lent) m)))
+said-length line (EventLine pc) bench m f = omega (arith, event-length (eventOutcome (bench .board) (bench .place) (start pc)))
+said-length line (EventWithAccess pc address attribute lanes) bench m f =
     omega (arith, event-length (eventOutcome (bench .board) (bench .place) (access pc address attribute lanes)))
-said-length line Breakpoint bench m shown = omega (arith, breakpoint-length (breakpointOutcome (bench .board) (bench .place)))
-said-length line (Peek address count) bench m shown = peeked-length (fits address count (bench .lent)) m address count (shown address count refl)
-said-length line State bench m shown = omega (arith, state-length (bench .board) (bench .place))
-said-length line Unclear bench m shown = omega arith
+said-length line Breakpoint bench m f = omega (arith, breakpoint-length (breakpointOutcome (bench .board) (bench .place)))
+said-length line (Peek address count) bench m f = peeked-length (fits address count (bench .lent)) m address count f
+said-length line State bench m f = omega (arith, state-length (bench .board) (bench .place))
+said-length line Unclear bench m f = omega arith
 
--- and to a request
+-- to a request
 outcome-length : (o : Closing) → length (outcomeText o) ≤ 14
 outcome-length (Value v) = simp length-append (omega (arith, digits-length 16 8 v))
 outcome-length Complete = omega arith
 outcome-length BusError = omega arith
 outcome-length Illegal = omega arith
 
-pub exchanged-length : (x : Exchanged) → length (exchangedText x) ≤ 4096
+pub exchanged-length : (x : Exchanged) → length (exchangedText x) ≤ 4095
 exchanged-length (Ended outcome packets) = simp length-append (omega (arith, outcome-length outcome, decimal-length packets))
 exchanged-length (RefusedToExchange ground) = omega (arith, refused-length ground 0)
+
+-- of the pod's half: no request has more than five words
+each-length : (words : List ℕ) → length (eachWord words) ≡ 6 * length words
+each-length [] = refl
+each-length (word ∷ words) = simp length-append (omega (arith, digits-length 16 5 word, each-length words))
+
+built-length : (v : Verdict) (words : List ℕ) → length words ≤ 5 → length (builtBy v words) ≤ 4095
+built-length Accepted words few = simp length-append (omega (arith, each-length words))
+built-length (Refused ground) words few = omega (arith, refused-length ground 0)
+
+reading-length : (r : Reading) → length (readingText r) ≤ 4095
+reading-length (EndedThere outcome used) = simp length-append (omega (arith, outcome-length outcome, decimal-length used))
+reading-length (NotYet used) = simp length-append (omega (arith, decimal-length used))
+reading-length (RefusedToRead ground) = omega (arith, refused-length ground 0)
+
+read-length : (request : Request) (t : Taken) (replies : List ℕ) → length (readText request t replies) ≤ 4095
+read-length request (Count n) replies = reading-length (reading request replies)
+read-length request TooMany replies = omega arith
+read-length request NotAllNumbers replies = omega arith
+
+pub pod-length : (meaning : Meaning) → length (podText meaning) ≤ 4095
+pod-length nothing = omega arith
+pod-length (builds request) = built-length (buildingVerdict request 5) (builtWords request) (word-count-bound request)
+pod-length (reads request replies) = read-length request (taken (counted replies) 2048) (values replies)
+pod-length unclear = omega arith
+
+-- and to `help`
+pub help-length : (language : Language) → length (helpText language) ≤ 4095
+unfolding helpText
+help-length StandIn = leb-true _ 4095 refl
+help-length Talk = leb-true _ 4095 refl
+help-length Both = leb-true _ 4095 refl
+help-length Pod = leb-true _ 4095 refl

@@ -28,12 +28,13 @@ use Rattle.exchange.specs.declared.Exchanged.{Exchanged}
 use Rattle.exchange.specs.declared.Exchanged.the-variants.{Ended, Refused as RefusedToExchange}
 use Rattle.exchange.specs.declared.Returned.{Returned}
 use Rattle.exchange.specs.Exchange.{ExchangeMeets}
+use Rattle.exchange.specs.ExchangeMirror.{Typed}
 use Rattle.board_lines.specs.declared.BoardLine.the-variants.{Packet}
 use Rattle.replies.specs.ReplyText.{packetText}
 use Rattle.readings.specs.declared.Outcome.{Outcome as Closing}
 use Rattle.readings.specs.declared.Outcome.the-variants.{Value, Complete, BusError, Illegal}
 use Rattle.text_laws.specs.ReadBackLaws.{decimalValue}
-use Rattle.text_laws.specs.ToldBackLaws.{PacketHeld, refusalOf, refusal-back, outcomeOf, numberAt, OutcomeHeld, exchange-back}
+use Rattle.text_laws.specs.ToldBackLaws.{PacketHeld, refusalOf, refusal-back, outcomeOf, numberAt, exchange-back}
 use Rattle.text_laws.specs.ToldUnique.{packet-text-unique}
 use Rattle.answers.specs.declared.Bench.{Bench}
 use Rattle.answers.specs.declared.Answered.{Answered}
@@ -44,6 +45,7 @@ use Rattle.text_laws.specs.TextUnique.{puts-unique}
 use Rattle.answers.specs.SaidLaws.{packet-outcome}
 use Rattle.asking.specs.Asking.{exchangedText, exchangeSaid}
 use Rattle.asking.specs.AskingLaws.{exchange-outcome}
+use Rattle.said_laws.specs.ExchangeHeldLaws.{ExchangeHeld, exchange-held}
 
 -- the reply that goes out fits five digits, where the place is in its ranges
 reply-within : (phase : Phase) (next : ℕ) → next ≤ 0x1FFFF → replyIn phase next < 16 ^ 5
@@ -81,11 +83,7 @@ module _ (line : List ℕ) (word : ℕ) (bench : Bench) (m : List ℕ) {r : Answ
       let held = packet-held (portState bench (take (bench .lent) m)) word in
       (ap packetText (sym due), λ o h e. packet-text-unique o _ h held e ∙ sym due)
 
--- and of a request in talk, whatever the exchange answered
-abbrev pub ExchangeHeld : Exchanged → Type 0
-ExchangeHeld (Ended outcome packets) = OutcomeHeld outcome × (packets < 10 ^ 20)
-ExchangeHeld (RefusedToExchange ground) = Unit
-
+-- and of a request in talk
 abbrev exchangedOf : List ℕ → Exchanged
 exchangedOf text =
     cond (eqb (getD text 0 0) 114) (RefusedToExchange (refusalOf text))
@@ -109,10 +107,13 @@ pub exchanged-unique : (x y : Exchanged) → ExchangeHeld x → ExchangeHeld y �
 exchanged-unique x y h k e = sym (exchanged-back x h) ∙ ap exchangedOf e ∙ exchanged-back y k
 
 module _ (request : Request) (bench : Bench) (m : List ℕ) {r : Returned} {after : List ℕ} where
-  pub exchange-said-unique : ExchangeMeets request (portState bench (take (bench .lent) m)) r after → ExchangeHeld (r .answer)
+  -- the state is one that the types allow, and so what is answered fits its digits
+  pub exchange-said-unique : ExchangeMeets request (portState bench (take (bench .lent) m)) r after → Typed (portState bench (take (bench .lent) m))
       → (exchangeSaid request bench (take (bench .lent) m) ≡ exchangedText (r .answer))
       × ((x : Exchanged) → ExchangeHeld x → exchangedText x ≡ exchangeSaid request bench (take (bench .lent) m) → x ≡ r .answer)
-  exchange-said-unique meets held =
+  exchange-said-unique meets typed =
+      let answer = exchange-outcome meets in
+      let held : ExchangeHeld (r .answer) = rw answer (exchange-held request (portState bench (take (bench .lent) m)) typed) in
       let said = ap exchangedText (sym (exchange-outcome meets)) in
       (said, λ x h e. exchanged-unique x (r .answer) h held (e ∙ said))
 

@@ -11,7 +11,7 @@ use Rattle.conversation.proofs.run.Tie as tie
 abbrev Inv-loop : tie.InvT-loop
 Inv-loop language source₀ line₀ text₀ memory₀ bench₀ unread₀ budget₀ source line text memory bench unread budget =
     (length source ≡ length source₀) × (length line ≡ length line₀) × (length text ≡ length text₀) × (length memory ≡ length memory₀)
-    × Came language opening memory₀ bench memory
+    × Came language opening memory₀ text₀ bench memory text
 
 abbrev μ-loop : tie.MeasureT-loop
 μ-loop language source₀ line₀ text₀ memory₀ bench₀ unread₀ budget₀ source line text memory bench unread budget = budget
@@ -20,7 +20,7 @@ opened-requires : tie.Need-opened-requires Inv-loop μ-loop
 opened-requires c κs = search needs
 
 loop-holds : tie.Need-loop-holds Inv-loop μ-loop
-loop-holds c = (refl, refl, refl, refl, rw (c .opened .ensures) (comes-to-begin (c .before .before .before .before .before .args .language) opening (c .before .before .before .before .before .args .memory .now)))
+loop-holds c = (refl, refl, refl, refl, rw (c .opened .ensures) (comes-to-begin (c .before .before .before .before .before .args .language) opening (c .before .before .before .before .before .args .memory .now) (c .before .before .before .before .before .args .text .now)))
 
 sub-budget : tie.Need-sub-budget Inv-loop μ-loop
 sub-budget c = search needs
@@ -54,8 +54,10 @@ returns : tie.Need-returns Inv-loop μ-loop
 returns c =
     quit-comes (c .before .before .before .before .before .before .before .before .before .before .before .before .before .before .before .before .before .before .before .before .before .before .before .before .before .before .before .before .args .language) opening
     (c .before .before .before .before .before .before .before .before .before .before .before .before .before .before .before .before .before .before .before .before .before .before .before .before .before .before .before .before .args .memory .now)
+    (c .before .before .before .before .before .before .before .before .before .before .before .before .before .before .before .before .before .before .before .before .before .before .before .before .before .before .before .before .args .text .now)
     (c .before .before .before .before .before .before .before .before .before .before .before .before .before .before .before .before .before .before .before .before .before .before .loop .bench)
     (c .before .before .before .before .before .before .before .before .before .before .before .before .before .before .before .before .before .before .before .before .before .before .loop .memory)
+    (c .before .before .before .before .before .before .before .before .before .before .before .before .before .before .before .before .before .before .before .before .before .before .loop .text)
     (c .before .before .before .before .before .before .before .before .before .before .before .before .before .before .before .before .before .before .before .before .before .before .loop .inv .4)
     (omega (
       arith,
@@ -78,8 +80,10 @@ loop-again c = (
   c .before .before .before .before .before .before .serve-front .kept .1 .1 .1 .1 .0 ∙ c .before .before .before .before .before .before .before .before .before .before .before .before .before .before .before .before .before .before .before .before .before .before .loop .inv .3,
   line-comes (c .before .before .before .before .before .before .before .before .before .before .before .before .before .before .before .before .before .before .before .before .before .before .before .before .before .before .before .before .args .language) opening
       (c .before .before .before .before .before .before .before .before .before .before .before .before .before .before .before .before .before .before .before .before .before .before .before .before .before .before .before .before .args .memory .now)
+      (c .before .before .before .before .before .before .before .before .before .before .before .before .before .before .before .before .before .before .before .before .before .before .before .before .before .before .before .before .args .text .now)
       (c .before .before .before .before .before .before .before .before .before .before .before .before .before .before .before .before .before .before .before .before .before .before .loop .bench)
       (c .before .before .before .before .before .before .before .before .before .before .before .before .before .before .before .before .before .before .before .before .before .before .loop .memory)
+      (c .before .before .before .before .before .before .before .before .before .before .before .before .before .before .before .before .before .before .before .before .before .before .loop .text)
       (c .before .before .before .before .before .before .before .before .before .before .before .before .before .before .before .before .before .before .before .before .before .before .loop .inv .4)
       (omega (
         arith,
@@ -117,8 +121,10 @@ returns-2 : tie.Need-returns-2 Inv-loop μ-loop
 returns-2 c =
     last-comes (c .before .before .before .before .before .before .before .before .before .before .before .before .before .before .before .before .before .before .before .before .before .before .before .before .before .before .before .args .language) opening
     (c .before .before .before .before .before .before .before .before .before .before .before .before .before .before .before .before .before .before .before .before .before .before .before .before .before .before .before .args .memory .now)
+    (c .before .before .before .before .before .before .before .before .before .before .before .before .before .before .before .before .before .before .before .before .before .before .before .before .before .before .before .args .text .now)
     (c .before .before .before .before .before .before .before .before .before .before .before .before .before .before .before .before .before .before .before .before .before .loop .bench)
     (c .before .before .before .before .before .before .before .before .before .before .before .before .before .before .before .before .before .before .before .before .before .loop .memory)
+    (c .before .before .before .before .before .before .before .before .before .before .before .before .before .before .before .before .before .before .before .before .before .loop .text)
     (c .before .before .before .before .before .before .before .before .before .before .before .before .before .before .before .before .before .before .before .before .before .loop .inv .4)
     (omega (
       arith,
@@ -141,7 +147,11 @@ same-length-12 : tie.Need-same-length-12 Inv-loop μ-loop
 same-length-12 c = search needs
 
 returns-3 : tie.Need-returns-3 Inv-loop μ-loop
-returns-3 c = none-comes (c .before .before .before .before .before .before .before .args .language) opening (c .before .before .before .before .before .before .before .args .memory .now) (c .before .loop .bench) (c .before .loop .memory) (c .before .loop .inv .4)
+returns-3 c = none-comes (c .before .before .before .before .before .before .before .args .language) opening (c .before .before .before .before .before .before .before .args .memory .now)
+    (c .before .before .before .before .before .before .before .args .text .now)
+    (c .before .loop .bench) (c .before .loop .memory)
+    (c .before .loop .text)
+    (c .before .loop .inv .4)
 
 pub run-spec : {M : Type 1} → statement M
 run-spec =
