@@ -1,0 +1,3 @@
+pub mod VisitRequests
+pub mod Marker
+pub mod RequestAtLaws
