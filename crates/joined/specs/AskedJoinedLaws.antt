@@ -1,0 +1,154 @@
+-- What a visit asks, met by the stand-in at rest: each request is in range, one that is illegal alters nothing but the chain, and none of the table is.
+use Prim.Native.Nat.{ℕ, zero, suc, _-_, _≤_}
+use native.Mathlib.Omega.{arith}
+use mathlib.Core.Path.{_≡_, refl, sym, ap, _∙_}
+use mathlib.Core.Bool.{Bool, true, false, cond, _&&_}
+use mathlib.Core.List.{List, [], _∷_}
+use lib.Dec.{leb, ltb}
+use lib.ListN.{getD}
+use borrow.Author.Tests.{ltb-true, ltb-false, leb-true, le-leb, lt-leb}
+use Rattle.laws.specs.TestLaws.{by-test, either, both-hold}
+use Rattle.memory.specs.declared.Size.{Size}
+use Rattle.memory.specs.declared.Size.the-variants.{Long}
+use Rattle.memory.specs.Memory.{present}
+use Rattle.command.specs.Command.{decoded, decodedWord}
+use Rattle.command.specs.Reply.{complete, illegal}
+use Rattle.board.specs.declared.Chain.the-variants.{Dumping}
+use Rattle.board.specs.State.{State}
+use Rattle.control.specs.Control.{controlNumbers}
+use Rattle.step.specs.Step.{stepped}
+use Rattle.sound.specs.Sound.{Sound}
+use Rattle.requests.specs.declared.Request.{Request}
+use Rattle.requests.specs.declared.Request.the-variants.{Read, Dump, Rdreg, Rcreg, Rdmreg}
+use Rattle.requests.specs.Request.{inRange}
+use Rattle.round_trip.specs.Meaning.{Scene, meaning, reads}
+use Rattle.round_trip.specs.RoundTrip.{resting, sceneOf, unchained, legalThere, outcomeThere, secondWord, stateThere}
+use Rattle.round_trip.specs.PacketTakenLaws.{nop-at-rest}
+use Rattle.round_trip.specs.NextRequestLaws.{left-sound}
+use Rattle.asked.specs.VisitRequests.{registersAsked, registerRequest, begins, addressAt, tableRequest, requestAt, inTable}
+use Rattle.visit.specs.Visit.{isIllegal, isBusError, notable}
+use Rattle.visit_course.specs.VisitCourse.{leavesThere}
+
+pub not-both : {A : Type 0} → true ≡ false → A
+not-both e = let z : _≡_ {A = ℕ} 0 1 = cc in absurd (omega arith)
+
+-- ---- the requests one by one
+abbrev allWithin : ℕ → List ℕ → Bool
+allWithin k [] = true
+allWithin k (x ∷ xs) = leb x k && allWithin k xs
+
+within-at : (k : ℕ) (l : List ℕ) (i : ℕ) → allWithin k l ≡ true → getD l i 0 ≤ k
+within-at k [] i h = omega arith
+within-at k (x ∷ xs) zero h = leb-true x k (both-hold (leb x k) (allWithin k xs) h .0)
+within-at k (x ∷ xs) (suc i) h = within-at k xs i (both-hold (leb x k) (allWithin k xs) h .1)
+
+-- what holds of each request that may be asked with this number
+pub record EachAsked (j : ℕ) (P : Request → Type 0) : Type 0 where
+  pub register : inTable j ≡ false → (n : ℕ) → n ≤ 15 → P (Rdreg n)
+  pub control : inTable j ≡ false → (rc : ℕ) → rc ≤ 0xFFF → P (Rcreg rc)
+  pub csr : inTable j ≡ false → P (Rdmreg 0)
+  pub longword : inTable j ≡ true → (address : ℕ) → address ≤ 0xFFFFFFFF → P (Read Long address)
+  pub further : inTable j ≡ true → begins (j - registersAsked) ≡ false → P (Dump Long)
+
+pub each-asked : (P : Request → Type 0) (address j : ℕ) → EachAsked j P → P (requestAt address j)
+unfolding requestAt
+each-asked P address j e =
+    either P (ltb j registersAsked) (registerRequest j) (tableRequest address (j - registersAsked))
+    (λ t.
+    let before : inTable j ≡ false = lt-leb registersAsked j (ltb-true j registersAsked t) in
+    either P (ltb j 16) (Rdreg j) (cond (ltb j 26) (Rcreg (getD controlNumbers (j - 16) 0)) (Rdmreg 0))
+    (λ t. e .register before j (omega (arith, ltb-true j 16 t)))
+    (λ t.
+    either P (ltb j 26) (Rcreg (getD controlNumbers (j - 16) 0)) (Rdmreg 0)
+    (λ t. e .control before (getD controlNumbers (j - 16) 0) (within-at 0xFFF controlNumbers (j - 16) refl))
+    (λ t. e .csr before)))
+    (λ t.
+    let there : inTable j ≡ true = le-leb registersAsked j (ltb-false j registersAsked t) in
+    let k = j - registersAsked in
+    either P (begins k) (Read Long (addressAt address k)) (Dump Long)
+    (λ b. e .longword there (addressAt address k) (omega arith))
+    (λ b. e .further there b))
+
+pub asked-in-range : (address j : ℕ) → inRange (requestAt address j) ≡ true
+asked-in-range address j =
+    each-asked (λ r. inRange r ≡ true) address j
+    (record {
+      register = λ b n h. le-leb n 15 h;
+      control = λ b rc h. le-leb rc 0xFFF h;
+      csr = λ b. refl;
+      longword = λ t a h. le-leb a 0xFFFFFFFF h;
+      further = λ t b. refl;
+    })
+
+-- ---- what is legal
+legal-read : (address : ℕ) (s : Scene) → legalThere (Read Long address) s ≡ true
+unfolding decoded decodedWord
+legal-read address s = by-test (s .board .status .halted) (λ e. rw e) (λ e. rw e)
+
+legal-dump : (s : Scene) → s .chain ≡ Dumping → legalThere (Dump Long) s ≡ true
+unfolding decoded decodedWord
+legal-dump s chained = by-test (s .board .status .halted) (λ e. rw (e, chained)) (λ e. rw (e, chained))
+
+-- the word after one that is illegal is a NOP
+second-is-nop : (address j : ℕ) (s : Scene) → legalThere (requestAt address j) s ≡ false → secondWord (requestAt address j) ≡ 0
+second-is-nop address j s =
+    each-asked (λ r. legalThere r s ≡ false → secondWord r ≡ 0) address j
+    (record {
+      register = λ b n h l. refl;
+      control = λ b rc h l. omega arith;
+      csr = λ b l. refl;
+      longword = λ t a h l. not-both (sym (legal-read a s) ∙ l);
+      further = λ t b l. refl;
+    })
+
+-- ---- what is left
+module _ (address j : ℕ) (s : Scene) where
+  pub asked-leaves : stateThere (requestAt address j) s ≡ resting (leavesThere (requestAt address j) s) complete
+  unfolding stateThere
+  asked-leaves =
+      by-test (legalThere (requestAt address j) s)
+      (λ l. rw l)
+      (λ l. rw l (ap (stepped (resting (unchained s) illegal)) (second-is-nop address j s l) ∙ nop-at-rest (unchained s) illegal))
+
+-- at rest with no chain, what stands there is as sound
+pub unchained-sound : {s : State} → Sound s → Sound (resting (unchained (sceneOf s)) complete)
+unchained-sound f =
+    record { board = f .board; place = record { phase = tt; next = omega arith; pointer = f .place .pointer }; memory = f .memory }
+
+pub asked-keeps-sound : (address j : ℕ) (s : Scene) → Sound (resting s complete) → Sound (resting (leavesThere (requestAt address j) s) complete)
+asked-keeps-sound address j s f =
+    by-test (legalThere (requestAt address j) s)
+    (λ l. rw l (left-sound (requestAt address j) s complete (asked-in-range address j) l f))
+    (λ l. rw l (unchained-sound f))
+
+-- ---- the table
+pub record InTable (request : Request) (s : Scene) : Type 0 where
+  -- none is illegal
+  pub notIllegal : isIllegal (outcomeThere request s) ≡ false
+  -- after one that is there a DUMP is legal
+  pub chains : isBusError (outcomeThere request s) ≡ false → leavesThere request s .chain ≡ Dumping
+
+reads-there : (request : Request) (size : Size) (address : ℕ) (s : Scene) → meaning request s ≡ reads size address s → legalThere request s ≡ true
+    → InTable request s
+reads-there request size address s m l =
+    by-test (present (s .memory) size address)
+    (λ t. record { notIllegal = rw (l, m, t); chains = λ b. rw (l, m, t) })
+    (λ t. record { notIllegal = rw (l, m, t); chains = λ b. not-both (rw (l, m, t) at b) })
+
+pub in-table : (address j : ℕ) (s : Scene) → inTable j ≡ true → (begins (j - registersAsked) ≡ false → s .chain ≡ Dumping)
+    → InTable (requestAt address j) s
+in-table address j s there chained =
+    each-asked (λ r. InTable r s) address j
+    (record {
+      register = λ b n h. not-both (sym there ∙ b);
+      control = λ b rc h. not-both (sym there ∙ b);
+      csr = λ b. not-both (sym there ∙ b);
+      longword = λ t a h. reads-there (Read Long a) Long a s refl (legal-read a s);
+      further = λ t b. reads-there (Dump Long) Long (s .pointer) s refl (legal-dump s (chained b));
+    })
+
+-- so every outcome is noted
+pub asked-is-notable : (address j : ℕ) (s : Scene) → (inTable j ≡ true → begins (j - registersAsked) ≡ false → s .chain ≡ Dumping)
+    → notable (outcomeThere (requestAt address j) s) j ≡ true
+asked-is-notable address j s chained =
+    by-test (inTable j) (λ t. rw (t, in-table address j s t (chained t) .notIllegal)) (λ t. rw t)

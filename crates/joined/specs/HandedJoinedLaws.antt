@@ -1,0 +1,120 @@
+-- What a visit joined with the stand-in hands over: the outcome of each request in turn, and nothing beyond them.
+use Prim.Native.Nat.{ℕ, zero, suc, _+_, _^_, _≤_, _<_}
+use native.Mathlib.Omega.{arith}
+use mathlib.Core.Path.{_≡_, refl, ap, _∙_}
+use mathlib.Core.Bool.{true, _||_}
+use mathlib.Core.List.{List, [], _∷_, _++_, map}
+use lib.ListN.{length, getD, drop, length-append, length-map, List·getD-append, List·getD-map}
+use borrow.Author.Tests.{le-ltb, lt-ltb}
+use Rattle.laws.specs.TestLaws.{by-test}
+use Rattle.memory.specs.declared.Size.the-variants.{Long}
+use Rattle.memory.specs.Memory.{aligned, present}
+use Rattle.memory.specs.MemoryLaws.{value-within}
+use Rattle.command.specs.Reply.{complete}
+use Rattle.board.specs.State.{State}
+use Rattle.control.specs.Control.{controlIndex, controlListed}
+use Rattle.sound.specs.Sound.{Sound}
+use Rattle.readings.specs.declared.Outcome.{Outcome}
+use Rattle.readings.specs.declared.Outcome.the-variants.{Value, Complete, BusError, Illegal}
+use Rattle.asked.specs.VisitRequests.{registersAsked, requestAt, marked}
+use Rattle.visit.specs.declared.Handed.the-variants.{Given, Nothing}
+use Rattle.visit.specs.Visit.{tableInRange, noteOf, isIllegal}
+use Rattle.visit.specs.HandedOver.{outcomeOf, handedOver}
+use Rattle.round_trip.specs.Meaning.{Scene, meaning, reads}
+use Rattle.round_trip.specs.RoundTrip.{resting, unchained, legalThere, outcomeThere}
+use Rattle.round_trip.specs.BroughtToRest.{restBudget, restScene}
+use Rattle.round_trip.specs.BroughtToRestLaws.{rest-keeps-sound}
+use Rattle.round_trip.specs.MeantWorkLaws.{csr-fits}
+use Rattle.visit_course.specs.VisitCourse.{leavesThere, endsTable, courseFrom, courseOf}
+use Rattle.joined.specs.VisitReads.{visited}
+use Rattle.joined.specs.AskedJoinedLaws.{each-asked, unchained-sound, asked-keeps-sound}
+use Rattle.joined.specs.VisitReadsLaws.{visit-reads}
+
+-- ---- a note is read back
+-- a value has 32 bits
+abbrev Narrow : Outcome → Type 0
+Narrow (Value v) = v < 2 ^ 32
+Narrow Complete = Unit {0}
+Narrow BusError = Unit {0}
+Narrow Illegal = Unit {0}
+
+read-back : (o : Outcome) → Narrow o → outcomeOf (noteOf o) ≡ o
+read-back (Value v) small = rw (lt-ltb v (2 ^ 32) small)
+read-back Complete small = refl
+read-back BusError small = refl
+read-back Illegal small = refl
+
+-- ---- each outcome
+module _ (s : Scene) (f : Sound (resting s complete)) where
+  longword-narrow : (address : ℕ) → Narrow (reads Long address s .outcome)
+  longword-narrow address =
+      by-test (present (s .memory) Long address) (λ t. rw t (value-within (s .memory) Long (aligned Long address) (f .memory .bytes))) (λ t. rw t tt)
+
+  asked-narrow : (address j : ℕ) → Narrow (outcomeThere (requestAt address j) s)
+  asked-narrow address j =
+      by-test (legalThere (requestAt address j) s)
+      (λ l.
+      rw l
+      (each-asked (λ r. Narrow (meaning r s .outcome)) address j
+      (record {
+        register = λ b n h. f .board .general n;
+        control = λ b rc h. by-test (controlListed rc) (λ t. rw t (f .board .control (controlIndex rc))) (λ t. rw t tt);
+        csr = λ b. omega (arith, csr-fits (s .board));
+        longword = λ t a h. longword-narrow a;
+        further = λ t b. longword-narrow (s .pointer);
+      })))
+      (λ l. rw l tt)
+
+abbrev AllNarrow : List Outcome → Type 0
+AllNarrow [] = Unit {0}
+AllNarrow (o ∷ os) = Narrow o × AllNarrow os
+
+narrow-at : (os : List Outcome) (i : ℕ) → AllNarrow os → Narrow (getD os i (Value 0))
+narrow-at [] i h = omega arith
+narrow-at (o ∷ os) zero h = h .0
+narrow-at (o ∷ os) (suc i) h = narrow-at os i (h .1)
+
+course-narrow : (left address j : ℕ) (s : Scene) → Sound (resting s complete) → AllNarrow (courseFrom left address j s .outcomes)
+unfolding courseFrom
+course-narrow zero address j s f = tt
+course-narrow (suc left) address j s f =
+    let o = outcomeThere (requestAt address j) s in
+    let s′ = leavesThere (requestAt address j) s in
+    let f′ = asked-keeps-sound address j s f in (
+      asked-narrow s f address j,
+      by-test (endsTable j o) (λ t. rw t tt)
+          (λ t.
+          by-test (isIllegal o || marked (suc j + left) (suc j))
+          (λ m. rw (t, m) (course-narrow left address (suc j) (unchained s′) (unchained-sound f′)))
+          (λ m. rw (t, m) (course-narrow left address (suc j) s′ f′))),
+    )
+
+-- ---- what is handed over
+module _ (address longwords : ℕ) (before : List ℕ) (s : State) (f : Sound s) (fits : tableInRange address longwords ≡ true)
+    (room : registersAsked + longwords ≤ length before) where
+  visit-narrow : AllNarrow (courseOf address longwords s .outcomes)
+  unfolding courseOf
+  visit-narrow = course-narrow (registersAsked + longwords) address 0 (unchained (restScene s)) (unchained-sound (rest-keeps-sound restBudget s f))
+
+  pub handed-over : (i : ℕ) → i < length (courseOf address longwords s .outcomes)
+      → handedOver (visited address longwords before s .visit) (visited address longwords before s .notes) i
+      ≡ Given (getD (courseOf address longwords s .outcomes) i (Value 0))
+  unfolding handedOver
+  handed-over i there =
+      let r = visit-reads address longwords before s f fits room in
+      let os = courseOf address longwords s .outcomes in
+      let notes = map noteOf os in
+      let rest = drop (length os) before in
+      let same : length notes ≡ length os = length-map os noteOf in
+      let long : i < length (notes ++ rest) = omega (arith, length-append notes rest) in
+      let note : getD (notes ++ rest) i 0 ≡ noteOf (getD os i (Value 0)) =
+      List·getD-append notes rest 0 i (omega arith) ∙ List·getD-map noteOf os i (Value 0) in
+      rw (r .read, r .ends, r .notes, lt-ltb i (length os) there, lt-ltb i (length (notes ++ rest)) long, note)
+      (ap Given (read-back (getD os i (Value 0)) (narrow-at os i visit-narrow)))
+
+  pub nothing-beyond : (i : ℕ) → length (courseOf address longwords s .outcomes) ≤ i
+      → handedOver (visited address longwords before s .visit) (visited address longwords before s .notes) i ≡ Nothing
+  unfolding handedOver
+  nothing-beyond i beyond =
+      let r = visit-reads address longwords before s f fits room in
+      rw (r .read, r .ends, le-ltb i (length (courseOf address longwords s .outcomes)) beyond)

@@ -1,0 +1,9 @@
+pub mod AskedJoinedLaws
+pub mod CourseJoinedLaws
+pub mod HandedJoinedLaws
+pub mod Joined
+pub mod JoinedLaws
+pub mod MarkerJoinedLaws
+pub mod RequestJoinedLaws
+pub mod VisitReads
+pub mod VisitReadsLaws

@@ -1,0 +1,1 @@
+// No code: a gateway's visit joined with the stand-in.

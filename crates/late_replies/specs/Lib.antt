@@ -1,0 +1,8 @@
+pub mod LateReplies
+pub mod NopReplyLaws
+pub mod HeardStageLaws
+pub mod MarkerReplyLaws
+pub mod LaggedVisitLaws
+pub mod LateRepliesLaws
+pub mod InTimeLaws
+pub mod LateExamples

@@ -1,0 +1,1 @@
+// No code: a gateway's visit to a port whose replies come late.

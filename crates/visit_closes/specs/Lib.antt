@@ -1,0 +1,7 @@
+pub mod NotedReplies
+pub mod NotedRepliesLaws
+pub mod RequestPhasesLaws
+pub mod RequestUnderWayLaws
+pub mod TrailStepsLaws
+pub mod VisitStagesLaws
+pub mod VisitTrailLaws

@@ -1,0 +1,13 @@
+pub mod VisitCourse
+pub mod TableRead
+pub mod RegistersRead
+pub mod PacketsStated
+pub mod RestMemory
+pub mod CourseStepLaws
+pub mod TableCourseLaws
+pub mod TableReadLaws
+pub mod TablePacketsLaws
+pub mod RegistersReadLaws
+pub mod CourseIsLaws
+pub mod RestMemoryLaws
+pub mod VisitCourseExamples

@@ -1,0 +1,1 @@
+// No code: the meaning of a visit's requests in turn.
