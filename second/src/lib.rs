@@ -4,6 +4,7 @@
 //! A benchmark uses [`board::Board::run`], [`trace::list_trace`], [`page::make_page`] and [`page::list_from`].
 
 pub mod board;
+pub mod bridge;
 pub mod check;
 pub mod command;
 pub mod cycles;
@@ -19,4 +20,5 @@ pub mod script;
 pub mod stored;
 pub mod talk;
 pub mod trace;
+pub mod visit;
 mod work;

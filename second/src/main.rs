@@ -9,6 +9,7 @@ use std::process::ExitCode;
 
 const USAGE: &str = "usage: second stand_in | pod | talk | trace_list | page
        second trace_list FROM
+       second gateway [ADDRESS LONGWORDS]
        second morning
        second cycles
        second gen DIR
@@ -22,9 +23,11 @@ fn main() -> ExitCode {
     let arguments: Vec<String> =
         std::env::args_os().skip(1).map(|argument| argument.to_string_lossy().into_owned()).collect();
     let mut arguments: Vec<&str> = arguments.iter().map(String::as_str).collect();
-    // What follows `trace_list` is a cycle or unclear, whatever it is elsewhere.
-    if let ["trace_list", rest @ ..] = &arguments[..] {
-        return exit(list(rest));
+    // What follows `trace_list` is a cycle or unclear, what follows `gateway` a table or unclear, whatever it is elsewhere.
+    match &arguments[..] {
+        ["trace_list", rest @ ..] => return exit(list(rest)),
+        ["gateway", rest @ ..] => return visit(rest),
+        _ => {}
     }
     let all = arguments.contains(&"--all");
     arguments.retain(|&argument| argument != "--all");
@@ -73,6 +76,16 @@ fn list(arguments: &[&str]) -> Result<bool, String> {
     desk::trace_list(arguments, &mut io::stdin().lock(), &mut output)
         .map_err(|error| format!("second trace_list: {error}"))?;
     Ok(true)
+}
+
+fn visit(arguments: &[&str]) -> ExitCode {
+    let mut output = BufWriter::new(io::stdout().lock());
+    let mut results = BufWriter::new(io::stderr().lock());
+    match desk::gateway(arguments, &mut io::stdin().lock(), &mut output, &mut results) {
+        Ok(()) => ExitCode::SUCCESS,
+        // Standard error can't be written: there is nowhere to say why.
+        Err(_) => ExitCode::FAILURE,
+    }
 }
 
 fn print_page() -> Result<bool, String> {

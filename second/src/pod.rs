@@ -151,6 +151,7 @@ impl Request {
 }
 
 /// Reads the replies to one request, one at a time.
+#[derive(Clone, Debug)]
 pub struct Reader {
     form: ResultForm,
     upper: Option<u32>,

@@ -53,7 +53,7 @@ fn a_line_is_answered_at_its_cr_and_quit_ends_the_program() {
     }
 }
 
-/// A directory of programs: `second` by its names, one of them behind a filter.
+/// A directory of programs, `gateway` aside: `second` by its names, one of them behind a filter.
 fn programs(name: &str, filtered: &str, filter: &str) -> PathBuf {
     programs_between(name, filtered, "cat", filter)
 }
@@ -71,6 +71,19 @@ fn programs_between(name: &str, filtered: &str, before: &str, behind: &str) -> P
     directory
 }
 
+/// `second gateway` behind a filter of its packets, or of its results.
+fn put_gateway(directory: &Path, packets: &str, results: &str) {
+    let path = directory.join("gateway");
+    let run = format!("'{SECOND}' gateway \"$@\"");
+    let text = match (packets, results) {
+        ("cat", "cat") => format!("#!/bin/sh\nexec {run}\n"),
+        (packets, "cat") => format!("#!/bin/sh\n{run} | {packets}\n"),
+        (_, results) => format!("#!/bin/sh\nexec 3>&1\n{run} 2>&1 >&3 | {results} >&2\n"),
+    };
+    fs::write(&path, text).unwrap();
+    fs::set_permissions(&path, fs::Permissions::from_mode(0o755)).unwrap();
+}
+
 fn second(arguments: &[&str]) -> (bool, String) {
     let Output { status, stdout, .. } = Command::new(SECOND).args(arguments).output().unwrap();
     (status.success(), String::from_utf8(stdout).unwrap())
@@ -83,13 +96,14 @@ fn vectors() -> String {
 #[test]
 fn the_same_programs_agree() {
     let directory = programs("same", "", "cat");
+    put_gateway(&directory, "cat", "cat");
     let bin = directory.to_str().unwrap();
     let (good, text) = second(&["compare", "--all", bin, &vectors()]);
     assert!(good, "{text}");
     assert!(text.ends_with(" 0 differ, 0 missing\n"), "{text}");
     let (good, text) = second(&["random", "--all", bin, "1", "3"]);
     assert!(good, "{text}");
-    assert_eq!(text, "3 rounds agree: 4800 lines, 60 traces\n");
+    assert!(text.starts_with("3 rounds agree: 4800 lines, 60 traces, "), "{text}");
     let (good, text) = second(&["soak", bin, "1"]);
     assert!(good && text.ends_with("all agree\n"), "{text}");
 }
@@ -161,13 +175,70 @@ fn a_listing_from_a_cycle_is_compared_with_its_argument() {
 
 #[test]
 fn missing_programs_are_reported() {
-    let directory = programs("missing", "", "cat");
-    fs::remove_file(directory.join("talk")).unwrap();
+    for name in ["talk", "gateway"] {
+        let directory = programs(&format!("missing_{name}"), "", "cat");
+        put_gateway(&directory, "cat", "cat");
+        fs::remove_file(directory.join(name)).unwrap();
+        let bin = directory.to_str().unwrap();
+        let (good, text) = second(&["compare", bin, &vectors()]);
+        assert!(good && text.starts_with(&format!("missing {name}\n")) && text.ends_with("1 missing\n"), "{text}");
+        let (good, _) = second(&["compare", "--all", bin, &vectors()]);
+        assert!(!good);
+        let (good, _) = second(&["random", "--all", bin, "1", "1"]);
+        assert!(!good);
+    }
+}
+
+/// A directory with nothing but a `gateway` behind filters.
+fn gateway_alone(name: &str, packets: &str, results: &str) -> PathBuf {
+    let directory = Path::new(env!("CARGO_TARGET_TMPDIR")).join(name);
+    fs::create_dir_all(&directory).unwrap();
+    put_gateway(&directory, packets, results);
+    directory
+}
+
+#[test]
+fn a_gateway_that_sends_another_packet_differs() {
+    let directory = gateway_alone("changed_packets", "sed -u s/02182/02183/", "cat");
     let bin = directory.to_str().unwrap();
     let (good, text) = second(&["compare", bin, &vectors()]);
-    assert!(good && text.starts_with("missing talk\n") && text.ends_with("1 missing\n"), "{text}");
-    let (good, _) = second(&["compare", "--all", bin, &vectors()]);
-    assert!(!good);
-    let (good, _) = second(&["random", "--all", bin, "1", "1"]);
-    assert!(!good);
+    assert!(!good && text.contains("DIFFERS gateway/fresh\n  line 3:   visit\n"), "{text}");
+    assert!(text.contains("  expected:   +21 0FFFF+2 02180+2 .. 0218F+2 02980+1 "), "{text}");
+    assert!(text.contains("  actual:     +21 0FFFF+2 02180+2 02181+2 (02183+2)*2 02184+2 .. 0218F+2 "), "{text}");
+    // What ends before that packet agrees.
+    assert!(text.contains("agrees  gateway/lag_start\n"), "{text}");
+    let (good, text) = second(&["random", bin, "1", "9"]);
+    let shortest = "gateway differs; the shortest script found:\n    visit";
+    assert!(!good && text.contains(shortest), "{text}");
+}
+
+#[test]
+fn a_gateway_with_other_results_differs() {
+    for (name, results, vector, expected, actual) in [
+        ("changed_reason", "sed s/late/reply/", "lag_start", "not-read packet 23 late", "not-read packet 23 reply"),
+        (
+            "changed_table", "sed s/^table.00000004/table.00000008/", "table", "table 00000004 04050607",
+            "table.00000008",
+        ),
+        ("changed_value", "sed s/D7D7/D6D6/", "registers", "register d7 D7D77D7D", "register d7 D6D67D7D"),
+    ] {
+        let directory = gateway_alone(name, "", results);
+        let (good, text) = second(&["compare", directory.to_str().unwrap(), &vectors()]);
+        let (_, shown) = text.split_once(&format!("DIFFERS gateway/{vector}\n")).expect(&text);
+        let (_, shown) = shown.split_once(&format!("  expected: {expected}")).expect(&text);
+        assert!(!good && shown.lines().nth(1).unwrap().contains(actual), "{name}: {text}");
+    }
+}
+
+#[test]
+fn a_gateway_may_have_any_status_but_must_not_be_killed() {
+    for (name, end, good, vector) in [
+        ("status", "exit 5", true, "agrees  gateway/fresh\n"),
+        ("killed", "kill -9 $$", false, "DIFFERS gateway/fresh\n"),
+    ] {
+        let directory = gateway_alone(&format!("gateway_{name}"), "cat", "cat");
+        fs::write(directory.join("gateway"), format!("#!/bin/sh\n'{SECOND}' gateway \"$@\"\n{end}\n")).unwrap();
+        let (agree, text) = second(&["compare", directory.to_str().unwrap(), &vectors()]);
+        assert!(agree == good && text.contains(vector), "{name}: {text}");
+    }
 }

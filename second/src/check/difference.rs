@@ -1,8 +1,10 @@
 //! Where two outputs part, and the input line that caused it.
 
+use super::folder::own_output;
 use super::run::{run, Run};
 use super::Subject;
-use crate::desk::{output_with, LINE_PROGRAMS};
+use crate::bridge::{play, Own};
+use crate::desk::LINE_PROGRAMS;
 use crate::line::{gets_no_answer, lines};
 use std::fmt;
 
@@ -32,7 +34,7 @@ pub fn try_expected(subject: Subject, input: &[u8], expected: &[u8]) -> Option<D
 
 /// As `try_expected`, with what this program prints.
 pub fn try_input(subject: Subject, input: &[u8]) -> Option<Difference> {
-    let expected = output_with(subject.name, subject.arguments, input).expect("a program's name");
+    let expected = own_output(subject.name, subject.arguments, input);
     try_expected(subject, input, &expected)
 }
 
@@ -53,7 +55,11 @@ fn first_difference(name: &str, input: &[u8], expected: &[u8], run: Run) -> Opti
         let (expected, actual) = (expected_lines.next(), actual_lines.next());
         if expected != actual {
             return Some(Difference::Line {
-                cause: if LINE_PROGRAMS.contains(&name) { cause(input, answer) } else { None },
+                cause: match name {
+                    "gateway" => cause_in_scene(input, answer),
+                    name if LINE_PROGRAMS.contains(&name) => cause(input, answer),
+                    _ => None,
+                },
                 answer,
                 expected: expected.map(<[u8]>::to_vec),
                 actual: actual.map(<[u8]>::to_vec),
@@ -67,6 +73,17 @@ fn first_difference(name: &str, input: &[u8], expected: &[u8], run: Run) -> Opti
 fn cause(input: &[u8], answer: usize) -> Option<(usize, Vec<u8>)> {
     let answered = lines(input).into_iter().enumerate().filter(|(_, line)| !gets_no_answer(line)).nth(answer - 1);
     answered.map(|(place, line)| (place + 1, line.to_vec()))
+}
+
+/// The line of a scene that this line of the output is for, as this program plays it.
+fn cause_in_scene(input: &[u8], answer: usize) -> Option<(usize, Vec<u8>)> {
+    let mut played = play(input, &mut Own).ok()?.into_iter();
+    let mut lines = 0;
+    let one = played.find(|one| {
+        lines += one.output.len();
+        answer <= lines
+    })?;
+    Some((one.number, one.line))
 }
 
 impl fmt::Display for Difference {

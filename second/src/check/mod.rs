@@ -8,6 +8,7 @@ mod rounds;
 mod run;
 mod shrink;
 mod soak;
+mod visitor;
 
 pub use compare::compare;
 pub use difference::Difference;
@@ -16,11 +17,12 @@ pub use folder::{output_for, FOLDERS};
 pub use rounds::random;
 pub use shrink::{blank, shrink};
 pub use soak::soak;
+pub use visitor::Process;
 
 use std::path::{Path, PathBuf};
 
 /// The programs under test, by name.
-pub const PROGRAMS: [&str; 5] = ["stand_in", "pod", "talk", "trace_list", "page"];
+pub const PROGRAMS: [&str; 6] = ["stand_in", "pod", "talk", "trace_list", "page", "gateway"];
 
 /// A program under test, and the arguments it is run with.
 #[derive(Clone, Copy)]

@@ -6,13 +6,15 @@ use super::{Found, Subject};
 use crate::cycles::show_cycles;
 use crate::desk::LINE_PROGRAMS;
 use crate::page::INDEX_STEP;
-use crate::random::{marked_trace, plain, random_arguments, random_script, random_trace, Rng};
+use crate::random::{gateway_script, marked_trace, plain, random_arguments, random_script, random_trace, Rng};
+use std::fmt;
 use std::path::Path;
 use std::time::Duration;
 
 /// How long each way to a shorter case is followed.
 const SHRINK_TIME: Duration = Duration::from_secs(60);
 const TRACES: usize = 20;
+const SCENES: usize = 5;
 
 /// How many lines a round's script has.
 fn script_length(program: &str) -> usize {
@@ -28,6 +30,13 @@ fn script_length(program: &str) -> usize {
 pub struct Tally {
     pub lines: usize,
     pub traces: usize,
+    pub visits: usize,
+}
+
+impl fmt::Display for Tally {
+    fn fmt(&self, f: &mut fmt::Formatter<'_>) -> fmt::Result {
+        write!(f, "{} lines, {} traces, {} visits", self.lines, self.traces, self.visits)
+    }
 }
 
 /// Each program has its own stream of numbers, so that a missing one does not change the others.
@@ -52,12 +61,31 @@ pub fn round(found: &Found, seed: u64, tally: &mut Tally) -> Result<(), String> 
         try_trace(found, &trace, &from)?;
         tally.traces += 1;
     }
+    if let Some(subject) = found.subject("gateway", &[]) {
+        let mut rng = stream(seed, "gateway");
+        for _ in 0..SCENES {
+            let visits = rng.between(1, 2) as usize;
+            let script = gateway_script(&mut rng, visits);
+            tally.visits += visits;
+            try_whole(subject, script.into_iter().map(ended).collect())?;
+        }
+    }
     Ok(())
+}
+
+fn ended(mut line: Vec<u8>) -> Vec<u8> {
+    line.push(b'\n');
+    line
 }
 
 fn try_script(subject: Subject, rng: &mut Rng, tally: &mut Tally) -> Result<(), String> {
     let lines = random_script(subject.name, rng, script_length(subject.name));
     tally.lines += lines.len();
+    try_whole(subject, lines)
+}
+
+/// A script of lines with their ends.
+fn try_whole(subject: Subject, lines: Vec<Vec<u8>>) -> Result<(), String> {
     match try_lines(subject, &lines) {
         Some(difference) => Err(script_report(subject, lines, &difference)),
         None => Ok(()),
@@ -87,9 +115,13 @@ fn script_report(subject: Subject, mut lines: Vec<Vec<u8>>, difference: &Differe
     }
     let fails = |lines: &[Vec<u8>]| try_lines(subject, lines).is_some();
     let shortest = shrink(&lines, SHRINK_TIME, fails);
-    // What need not be typed as it is, is shown as it is mostly typed.
-    let plain: Vec<Vec<u8>> = shortest.iter().map(|line| plain(line)).collect();
-    let shortest = blank(&shortest, &plain, SHRINK_TIME, fails);
+    // What need not be typed as it is, is shown as it is mostly typed. The lines of a scene are not typed.
+    let shortest = if LINE_PROGRAMS.contains(&subject.name) {
+        let plain: Vec<Vec<u8>> = shortest.iter().map(|line| plain(line)).collect();
+        blank(&shortest, &plain, SHRINK_TIME, fails)
+    } else {
+        shortest
+    };
     let difference =
         try_lines(subject, &shortest).map_or_else(|| difference.to_string(), |difference| difference.to_string());
     let script: String = shortest.iter().map(|line| format!("    {}\n", shown(Some(line)))).collect();
@@ -137,6 +169,6 @@ pub fn random(programs: &Path, seed: u64, count: u64, all: bool) -> bool {
             return false;
         }
     }
-    println!("{count} rounds agree: {} lines, {} traces", tally.lines, tally.traces);
+    println!("{count} rounds agree: {tally}");
     good
 }

@@ -1,6 +1,7 @@
 //! Running a program under test on a whole input.
 
-use super::Subject;
+use super::{Process, Subject};
+use crate::bridge::{play, played_output};
 use std::io::{Read, Write};
 use std::process::{Command, Stdio};
 use std::sync::mpsc;
@@ -22,6 +23,19 @@ pub struct Run {
 
 /// Runs the program to its end; or says why it came to none: it could not be started, was killed, or did not stop.
 pub fn run(subject: Subject, input: &[u8]) -> Result<Run, String> {
+    match subject.name {
+        "gateway" => run_scenes(subject, input),
+        _ => run_on(subject, input),
+    }
+}
+
+/// Plays scenes with the program at the bridge; what it said is part of what comes out.
+fn run_scenes(subject: Subject, input: &[u8]) -> Result<Run, String> {
+    let played = play(input, &mut Process { path: subject.path, patience: PATIENCE })?;
+    Ok(Run { output: played_output(&played), note: String::new() })
+}
+
+fn run_on(subject: Subject, input: &[u8]) -> Result<Run, String> {
     let mut child = Command::new(subject.path)
         .args(subject.arguments)
         .stdin(Stdio::piped())

@@ -40,5 +40,5 @@ pub fn soak(programs: &Path, seconds: u64, all: bool) -> bool {
 }
 
 fn progress(start: Instant, rounds: u64, tally: &Tally) -> String {
-    format!("{:4} s: {rounds} rounds, {} lines, {} traces", start.elapsed().as_secs(), tally.lines, tally.traces)
+    format!("{:4} s: {rounds} rounds, {tally}", start.elapsed().as_secs())
 }

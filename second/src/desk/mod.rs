@@ -1,6 +1,7 @@
 //! The desk's programs and their lines (desk-language.md).
 
 mod bench;
+mod gateway;
 pub mod morning;
 mod page;
 mod pod;
@@ -9,6 +10,7 @@ mod talk;
 mod trace_list;
 
 pub use bench::Bench;
+pub use gateway::gateway;
 pub use page::page;
 pub use pod::{parse_request, Pod};
 pub use stand_in::StandIn;

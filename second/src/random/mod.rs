@@ -3,6 +3,7 @@
 mod aim;
 mod breakpoints;
 mod from;
+mod gateway;
 mod marks;
 mod noise;
 mod pod;
@@ -13,6 +14,7 @@ mod trace;
 mod typing;
 
 pub use from::random_arguments;
+pub use gateway::gateway_script;
 pub use marks::marked_trace;
 pub use pod::pod_script;
 pub use rng::Rng;

@@ -7,6 +7,7 @@ mod conversations;
 mod drops;
 mod events;
 mod firing;
+mod gateway;
 mod illegal;
 mod marks;
 mod pages;
@@ -54,6 +55,7 @@ pub fn all() -> Vec<Stored> {
     stored.extend(traces::all());
     stored.extend(pages::all());
     stored.extend(marks::all());
+    stored.extend(gateway::all());
     stored
 }
 
