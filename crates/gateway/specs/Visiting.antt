@@ -1,7 +1,7 @@
 -- The desk's language, `gateway`: what the lines that come in do to the visit and its notes.
 use Prim.Native.Nat.{ℕ}
 use mathlib.Core.Path.{_≡_}
-use mathlib.Core.Bool.{true, cond}
+use mathlib.Core.Bool.{cond}
 use mathlib.Core.List.{List, [], _∷_}
 use Rattle.console.specs.InputLines.{linesOf}
 use Rattle.visit.specs.declared.Visit.{Visit}

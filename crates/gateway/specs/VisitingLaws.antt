@@ -2,7 +2,7 @@
 use Prim.Native.Nat.{ℕ, _<_}
 use native.Mathlib.Omega.{arith}
 use mathlib.Core.Path.{_≡_, refl, ap, sym, _∙_}
-use mathlib.Core.Bool.{Bool, true, false, cond}
+use mathlib.Core.Bool.{true, false}
 use mathlib.Core.List.{List, [], _∷_, _++_, append-assoc}
 use lib.ListN.{length, take}
 use Rattle.laws.specs.TestLaws.{by-test}
@@ -11,50 +11,23 @@ use Rattle.words.specs.declared.LineKind.the-variants.{Silent, Clear, TooLong}
 use Rattle.words.specs.LineWords.{kindOf}
 use Rattle.words.specs.LineWordLaws.{clear-short}
 use Rattle.console.specs.declared.Input.the-variants.{Line, Last}
-use Rattle.console.specs.InputLines.{linesOf, firstLine, hasEnded}
+use Rattle.console.specs.InputLines.{linesOf, firstLine}
 use Rattle.console.specs.InputLineLaws.{lines-end, open-line, throughEnd, through-end}
 use Rattle.console.specs.Holding.{heldOf}
 use Rattle.console.specs.HoldingLaws.{held-all, kind-held}
 use Rattle.console.specs.LineReading.{NextMeets}
-use Rattle.visit.specs.declared.Next.{Next}
-use Rattle.visit.specs.declared.Next.the-variants.{Send, EndsAsRead, EndsNotRead}
-use Rattle.visit.specs.declared.Stage.{Stage}
-use Rattle.visit.specs.declared.Stage.the-variants.{Marking, Asking, AsRead, NotRead}
 use Rattle.visit.specs.declared.Visit.{Visit}
-use Rattle.visit.specs.Visit.{packetBy, nextOf, lost, isOver}
+use Rattle.visit.specs.Visit.{lost, isOver}
+use Rattle.visit.specs.VisitLaws.{over-is-not-lost}
 use Rattle.reply_lines.specs.declared.ReplyLine.the-variants.{Nothing, NoReply}
 use Rattle.reply_lines.specs.ReplyLines.{replyLine}
 use Rattle.gateway.specs.Visiting.{Standing, standing, answered, afterLine, course, VisitMeets}
 
 -- ---- whether a visit is over
--- one that sends a packet is not
-abbrev sends : Next → Bool
-sends (Send word) = true
-sends EndsAsRead = false
-sends (EndsNotRead packet reason) = false
-
-sends-or-over : (v : Visit) (stage : Stage) → isOver stage ≡ cond (sends (packetBy v stage)) false true
-sends-or-over v (Marking i) = refl
-sends-or-over v (Asking sent reader) = refl
-sends-or-over v AsRead = refl
-sends-or-over v (NotRead reason) = refl
-
-pub sending-goes-on : (v : Visit) (word : ℕ) → nextOf v ≡ Send word → isOver (v .stage) ≡ false
-unfolding nextOf
-sending-goes-on v word e = sends-or-over v (v .stage) ∙ rw e
-
-pub read-is-over : (v : Visit) → nextOf v ≡ EndsAsRead → isOver (v .stage) ≡ true
-unfolding nextOf
-read-is-over v e = sends-or-over v (v .stage) ∙ rw e
-
 -- one that has lost its reply is
 lost-is-over : (v : Visit) → isOver (lost v .stage) ≡ true
 unfolding lost
 lost-is-over v = by-test (isOver (v .stage)) (λ t. rw t t) (λ t. rw t)
-
-over-stays-lost : (v : Visit) → isOver (v .stage) ≡ true → lost v ≡ v
-unfolding lost
-over-stays-lost v t = rw t
 
 -- whatever comes in, the visit is over at the end
 pub course-is-over : (lines : List (List ℕ)) (s : Standing) → isOver (course lines s .visit .stage) ≡ true
@@ -93,14 +66,14 @@ comes-to-begin s = ([], λ rest. refl)
 -- it has ended: nothing more comes
 ends-empty : (s : Standing) → course (linesOf []) s ≡ standing (lost (s .visit)) (s .notes)
 ends-empty s =
-    by-test (isOver (s .visit .stage)) (λ t. rw (t, over-stays-lost (s .visit) t)) (λ t. rw (t, empty-line s))
+    by-test (isOver (s .visit .stage)) (λ t. rw (t, over-is-not-lost (s .visit) t)) (λ t. rw (t, empty-line s))
 
 module _ (from s : Standing) (c : Came from s) where
   pub none-comes : (r : Visit) (after : List ℕ) → r ≡ lost (s .visit) → after ≡ s .notes → VisitMeets (from .visit) (from .notes) r after
   none-comes r after p q = record { input = c .0 ++ []; whole = rw (p, q) (sym (c .1 [] ∙ ends-empty s)) }
 
   pub over-comes : isOver (s .visit .stage) ≡ true → VisitMeets (from .visit) (from .notes) (s .visit) (s .notes)
-  over-comes t = none-comes (s .visit) (s .notes) (sym (over-stays-lost (s .visit) t)) refl
+  over-comes t = none-comes (s .visit) (s .notes) (sym (over-is-not-lost (s .visit) t)) refl
 
   module _ (goes-on : isOver (s .visit .stage) ≡ false) {unread left buffer : List ℕ} {held : ℕ} (some : 4096 < length buffer) where
     pub line-comes : (to : Standing) → NextMeets unread (Line held) left buffer → to ≡ afterLine (take held buffer) s → Came from to

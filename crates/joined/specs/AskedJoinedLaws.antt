@@ -1,13 +1,9 @@
 -- What a visit asks, met by the stand-in at rest: each request is in range, one that is illegal alters nothing but the chain, and none of the table is.
-use Prim.Native.Nat.{ℕ, zero, suc, _-_, _≤_}
+use Prim.Native.Nat.{ℕ, _-_}
 use native.Mathlib.Omega.{arith}
 use mathlib.Core.Path.{_≡_, refl, sym, ap, _∙_}
-use mathlib.Core.Bool.{Bool, true, false, cond, _&&_}
-use mathlib.Core.List.{List, [], _∷_}
-use lib.Dec.{leb, ltb}
-use lib.ListN.{getD}
-use borrow.Author.Tests.{ltb-true, ltb-false, leb-true, le-leb, lt-leb}
-use Rattle.laws.specs.TestLaws.{by-test, either, both-hold}
+use mathlib.Core.Bool.{true, false}
+use Rattle.laws.specs.TestLaws.{by-test}
 use Rattle.memory.specs.declared.Size.{Size}
 use Rattle.memory.specs.declared.Size.the-variants.{Long}
 use Rattle.memory.specs.Memory.{present}
@@ -15,70 +11,21 @@ use Rattle.command.specs.Command.{decoded, decodedWord}
 use Rattle.command.specs.Reply.{complete, illegal}
 use Rattle.board.specs.declared.Chain.the-variants.{Dumping}
 use Rattle.board.specs.State.{State}
-use Rattle.control.specs.Control.{controlNumbers}
 use Rattle.step.specs.Step.{stepped}
 use Rattle.sound.specs.Sound.{Sound}
 use Rattle.requests.specs.declared.Request.{Request}
-use Rattle.requests.specs.declared.Request.the-variants.{Read, Dump, Rdreg, Rcreg, Rdmreg}
-use Rattle.requests.specs.Request.{inRange}
+use Rattle.requests.specs.declared.Request.the-variants.{Read, Dump}
 use Rattle.round_trip.specs.Meaning.{Scene, meaning, reads}
 use Rattle.round_trip.specs.RoundTrip.{resting, sceneOf, unchained, legalThere, outcomeThere, secondWord, stateThere}
 use Rattle.round_trip.specs.PacketTakenLaws.{nop-at-rest}
 use Rattle.round_trip.specs.NextRequestLaws.{left-sound}
-use Rattle.asked.specs.VisitRequests.{registersAsked, registerRequest, begins, addressAt, tableRequest, requestAt, inTable}
+use Rattle.asked.specs.VisitRequests.{registersAsked, begins, requestAt, inTable}
+use Rattle.asked.specs.RequestAtLaws.{each-asked, asked-in-range}
 use Rattle.visit.specs.Visit.{isIllegal, isBusError, notable}
 use Rattle.visit_course.specs.VisitCourse.{leavesThere}
 
 pub not-both : {A : Type 0} → true ≡ false → A
 not-both e = let z : _≡_ {A = ℕ} 0 1 = cc in absurd (omega arith)
-
--- ---- the requests one by one
-abbrev allWithin : ℕ → List ℕ → Bool
-allWithin k [] = true
-allWithin k (x ∷ xs) = leb x k && allWithin k xs
-
-within-at : (k : ℕ) (l : List ℕ) (i : ℕ) → allWithin k l ≡ true → getD l i 0 ≤ k
-within-at k [] i h = omega arith
-within-at k (x ∷ xs) zero h = leb-true x k (both-hold (leb x k) (allWithin k xs) h .0)
-within-at k (x ∷ xs) (suc i) h = within-at k xs i (both-hold (leb x k) (allWithin k xs) h .1)
-
--- what holds of each request that may be asked with this number
-pub record EachAsked (j : ℕ) (P : Request → Type 0) : Type 0 where
-  pub register : inTable j ≡ false → (n : ℕ) → n ≤ 15 → P (Rdreg n)
-  pub control : inTable j ≡ false → (rc : ℕ) → rc ≤ 0xFFF → P (Rcreg rc)
-  pub csr : inTable j ≡ false → P (Rdmreg 0)
-  pub longword : inTable j ≡ true → (address : ℕ) → address ≤ 0xFFFFFFFF → P (Read Long address)
-  pub further : inTable j ≡ true → begins (j - registersAsked) ≡ false → P (Dump Long)
-
-pub each-asked : (P : Request → Type 0) (address j : ℕ) → EachAsked j P → P (requestAt address j)
-unfolding requestAt
-each-asked P address j e =
-    either P (ltb j registersAsked) (registerRequest j) (tableRequest address (j - registersAsked))
-    (λ t.
-    let before : inTable j ≡ false = lt-leb registersAsked j (ltb-true j registersAsked t) in
-    either P (ltb j 16) (Rdreg j) (cond (ltb j 26) (Rcreg (getD controlNumbers (j - 16) 0)) (Rdmreg 0))
-    (λ t. e .register before j (omega (arith, ltb-true j 16 t)))
-    (λ t.
-    either P (ltb j 26) (Rcreg (getD controlNumbers (j - 16) 0)) (Rdmreg 0)
-    (λ t. e .control before (getD controlNumbers (j - 16) 0) (within-at 0xFFF controlNumbers (j - 16) refl))
-    (λ t. e .csr before)))
-    (λ t.
-    let there : inTable j ≡ true = le-leb registersAsked j (ltb-false j registersAsked t) in
-    let k = j - registersAsked in
-    either P (begins k) (Read Long (addressAt address k)) (Dump Long)
-    (λ b. e .longword there (addressAt address k) (omega arith))
-    (λ b. e .further there b))
-
-pub asked-in-range : (address j : ℕ) → inRange (requestAt address j) ≡ true
-asked-in-range address j =
-    each-asked (λ r. inRange r ≡ true) address j
-    (record {
-      register = λ b n h. le-leb n 15 h;
-      control = λ b rc h. le-leb rc 0xFFF h;
-      csr = λ b. refl;
-      longword = λ t a h. le-leb a 0xFFFFFFFF h;
-      further = λ t b. refl;
-    })
 
 -- ---- what is legal
 legal-read : (address : ℕ) (s : Scene) → legalThere (Read Long address) s ≡ true

@@ -29,7 +29,8 @@ use Rattle.joined.specs.Joined.{Joined, joined}
 use Rattle.joined.specs.JoinedLaws.{joined-more, joined-none, visitAt, meeting, closedAt, lastCounted}
 use Rattle.joined.specs.MarkerJoinedLaws.{marker-joined}
 use Rattle.joined.specs.RequestJoinedLaws.{request-joined}
-use Rattle.joined.specs.AskedJoinedLaws.{not-both, asked-in-range, asked-leaves, unchained-sound, asked-keeps-sound, InTable, in-table, asked-is-notable}
+use Rattle.asked.specs.RequestAtLaws.{asked-in-range}
+use Rattle.joined.specs.AskedJoinedLaws.{not-both, asked-leaves, unchained-sound, asked-keeps-sound, InTable, in-table, asked-is-notable}
 
 -- ---- where both stand
 -- with no marker to come first: the next request, or the end

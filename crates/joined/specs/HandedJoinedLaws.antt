@@ -27,7 +27,8 @@ use Rattle.round_trip.specs.BroughtToRestLaws.{rest-keeps-sound}
 use Rattle.round_trip.specs.MeantWorkLaws.{csr-fits}
 use Rattle.visit_course.specs.VisitCourse.{leavesThere, endsTable, courseFrom, courseOf}
 use Rattle.joined.specs.VisitReads.{visited}
-use Rattle.joined.specs.AskedJoinedLaws.{each-asked, unchained-sound, asked-keeps-sound}
+use Rattle.asked.specs.RequestAtLaws.{each-asked}
+use Rattle.joined.specs.AskedJoinedLaws.{unchained-sound, asked-keeps-sound}
 use Rattle.joined.specs.VisitReadsLaws.{visit-reads}
 
 -- ---- a note is read back

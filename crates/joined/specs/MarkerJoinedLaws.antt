@@ -52,7 +52,7 @@ brought-to-rest {s} f =
     ∙ nops-from-rest k (restScene s) (rested restBudget s .place .next)
 
 -- "no command has this word"
-no-command : (s : Standing) → legalWord illegalWord s ≡ false
+pub no-command : (s : Standing) → legalWord illegalWord s ≡ false
 unfolding decoded decodedWord
 no-command s = by-test (s .halted) (λ e. rw e) (λ e. rw e)
 

@@ -1,15 +1,12 @@
--- A gateway's visit (docs/gateway.md), the promise: joined with the stand-in it ends as read, and what it hands over is what is meant.
-use Prim.Native.Nat.{ℕ, _<_}
+-- A gateway's visit (docs/gateway.md), the promise: joined with the stand-in it ends as read, and what it notes is what is meant.
+use Prim.Native.Nat.{ℕ}
 use mathlib.Core.Path.{_≡_}
-use mathlib.Core.List.{List, [], _∷_, _++_, map}
+use mathlib.Core.List.{List, _++_, map}
 use lib.ListN.{length, drop}
 use Rattle.command.specs.Reply.{complete}
 use Rattle.board.specs.State.{State}
-use Rattle.readings.specs.declared.Outcome.{Outcome}
 use Rattle.visit.specs.declared.Stage.the-variants.{AsRead}
-use Rattle.visit.specs.declared.Handed.the-variants.{Given}
 use Rattle.visit.specs.Visit.{begun, noteOf}
-use Rattle.visit.specs.HandedOver.{handedOver}
 use Rattle.round_trip.specs.RoundTrip.{resting}
 use Rattle.joined.specs.Joined.{Joined, joined}
 use Rattle.visit_course.specs.VisitCourse.{Course, courseOf}

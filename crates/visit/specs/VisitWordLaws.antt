@@ -13,7 +13,7 @@ use Rattle.building.specs.RequestWords.{builtWords}
 use Rattle.building.specs.Building.{BuildingMeets, bufferAt}
 use Rattle.grounds.specs.declared.Verdict.the-variants.{Accepted}
 use Rattle.asked.specs.VisitRequests.{requestAt}
-use Rattle.asked.specs.RequestAtLaws.{of-each-asked, asked-in-range}
+use Rattle.asked.specs.RequestAtLaws.{each-asked, asked-in-range}
 
 one-word : (word i : ℕ) → getD (word ∷ replicate 4 0) i 0 ≡ getD (word ∷ []) i 0
 one-word word zero = refl
@@ -37,14 +37,14 @@ ThenNops request =
     (leb (length (builtWords request)) 5 ≡ true) × ((i : ℕ) → getD (bufferAt Accepted request (replicate 5 0)) i 0 ≡ getD (builtWords request) i 0)
 
 then-nops : (address j : ℕ) → ThenNops (requestAt address j)
-then-nops =
-    of-each-asked ThenNops
+then-nops address j =
+    each-asked ThenNops address j
     (record {
-      general = λ n small. (refl, one-word _);
-      control = λ k. (refl, three-words _ _ _);
-      status = (refl, one-word _);
-      first = λ address small. (refl, three-words _ _ _);
-      next = (refl, one-word _);
+      register = λ b n small. (refl, one-word _);
+      control = λ b rc small. (refl, three-words _ _ _);
+      csr = λ b. (refl, one-word _);
+      longword = λ t address small. (refl, three-words _ _ _);
+      further = λ t b. (refl, one-word _);
     })
 
 pub asked-then-nops : (address j : ℕ) {r : Built} {after : List ℕ} → BuildingMeets (requestAt address j) (replicate 5 0) r after

@@ -8,13 +8,10 @@ use lib.Dec.{eqb, leb, ltb}
 use lib.ListN.{getD}
 use borrow.Author.Tests.{eqb-true, ltb-false, lt-ltb, ne-eqb}
 use Rattle.laws.specs.TestLaws.{by-test, either}
-use Rattle.command.specs.Command.{decoded, decodedWord}
 use Rattle.command.specs.Reply.{complete}
 use Rattle.board.specs.declared.Phase.the-variants.{Rest}
-use Rattle.board.specs.declared.Standing.{Standing}
 use Rattle.board.specs.Board.{atRest}
 use Rattle.board.specs.State.{State}
-use Rattle.plan.specs.Plan.{legalWord}
 use Rattle.step.specs.Step.{replyNow, stepped}
 use Rattle.sound.specs.Sound.{Sound}
 use Rattle.sound.specs.SoundLaws.{packet-keeps-sound, packet-keeps-w}
@@ -38,7 +35,9 @@ use Rattle.round_trip.specs.RoundTrip.{sceneOf, standingIn}
 use Rattle.round_trip.specs.PacketTakenLaws.{illegal-taken}
 use Rattle.round_trip.specs.BroughtToRestLaws.{rest-is-resting}
 use Rattle.joined.specs.Joined.{wordOf}
-use Rattle.joined.specs.AskedJoinedLaws.{not-both, asked-in-range}
+use Rattle.asked.specs.RequestAtLaws.{asked-in-range}
+use Rattle.joined.specs.MarkerJoinedLaws.{no-command}
+use Rattle.joined.specs.AskedJoinedLaws.{not-both}
 use Rattle.promises.specs.TakenWords.{Word}
 use Rattle.promises.specs.Environment.{heard}
 use Rattle.promises.specs.Demand3.{lastClosed}
@@ -48,10 +47,6 @@ use Rattle.visit_closes.specs.TrailStepsLaws.{foundIn}
 use Rattle.visit_closes.specs.RequestUnderWayLaws.{Under, command-under, under-on, goes-ends}
 
 -- ---- a marker
-no-command : (s : Standing) → legalWord illegalWord s ≡ false
-unfolding decoded decodedWord
-no-command s = by-test (s .halted) (λ e. rw e) (λ e. rw e)
-
 abbrev pub toRest : State → ℕ
 toRest s = toGo (s .board .w) (s .place .phase)
 

@@ -25,7 +25,7 @@ use Rattle.visit.specs.Visit.{requestNow, packetBy, nextOf, isOver}
 use Rattle.visit.specs.Visit as visit
 use Rattle.joined.specs.Joined.{Joined, wordOf, packetNow, exchangedFor, onward, joined}
 use Rattle.joined.specs.JoinedLaws.{meeting, reply-within}
-use Rattle.joined.specs.AskedJoinedLaws.{asked-in-range}
+use Rattle.asked.specs.RequestAtLaws.{asked-in-range}
 use Rattle.promises.specs.Machine.{standIn}
 use Rattle.promises.specs.TakenWords.{Word, Stage as WordStage, stage}
 use Rattle.promises.specs.TakenWords.Stage.{operandDue, waitDue, upperDue, closed}
