@@ -7,7 +7,7 @@ use mathlib.Core.Bool.{Bool, true, false, cond}
 use mathlib.Core.List.{List, [], _∷_, _++_, append-nil}
 use lib.Dec.{leb, ltb, eqb}
 use lib.ListN.{length, getD, set, take, drop, length-append, length-set, take-append-drop, drop-of-length-le}
-use lib.Seq.{append-snoc, length-take-le, take-all, take-suc-set, split-at, set-split}
+use lib.Seq.{append-snoc, length-take-le, take-all, take-suc-set, split-at, set-split, drop-drop}
 use borrow.Author.Tests.{lt-ltb, le-ltb, lt-leb, le-leb, leb-true, leb-false}
 use Rattle.words.specs.declared.LineKind.the-variants.{Silent, Clear, TooLong}
 use Rattle.words.specs.LineWords.{isGap, isSilent, kindOf}
@@ -29,6 +29,12 @@ held-all room line h = held-on-room room [] line (omega arith)
 pub held-on-both : (room : ℕ) (before bytes more : List ℕ) → heldOn room before (bytes ++ more) ≡ heldOn room (heldOn room before bytes) more
 held-on-both room before [] more = refl
 held-on-both room before (byte ∷ bytes) more = held-on-both room (held room before byte) bytes more
+
+-- what lies behind so many bytes is as it was; so is what lies behind more of them
+pub further : (had more : ℕ) (buffer before : List ℕ) → had ≤ more → drop had buffer ≡ drop had before → drop more buffer ≡ drop more before
+further had more buffer before h e =
+    let on : more ≡ had + (more - had) = omega arith in
+    rw on (sym (drop-drop (more - had) had buffer) ∙ ap (drop (more - had)) e ∙ drop-drop (more - had) had before)
 
 -- one byte more, in a buffer of which so many bytes are held
 pub hold-room : (line : List ℕ) (before byte : ℕ) → before < length line → take (before + 1) (set line before byte) ≡ held (length line) (take before line) byte

@@ -87,19 +87,3 @@ ended-line (byte ∷ bytes) more e = by-test (ended-line bytes more) (isLineEnd 
         ≡ cond t [] (byte ∷ firstLine bytes) ∷ linesOf (cond t bytes (leftOver bytes) ++ more)
     by-test ih true e = refl
     by-test ih false e = rw (ih e)
-
--- the bytes of a line and its end
-abbrev pub throughEnd : List ℕ → List ℕ
-throughEnd [] = []
-throughEnd (byte ∷ bytes) = byte ∷ cond (isLineEnd byte) [] (throughEnd bytes)
-
-pub through-end : (bytes more : List ℕ) → hasEnded bytes ≡ true → linesOf (throughEnd bytes ++ more) ≡ firstLine bytes ∷ linesOf more
-through-end [] more e = cc
-through-end (byte ∷ bytes) more e = by-test (through-end bytes more) (isLineEnd byte) e
-  where
-    by-test : (hasEnded bytes ≡ true → linesOf (throughEnd bytes ++ more) ≡ firstLine bytes ∷ linesOf more) → (t : Bool)
-        → cond t true (hasEnded bytes) ≡ true
-        → cond t ([] ∷ linesOf (cond t [] (throughEnd bytes) ++ more)) (joined byte (linesOf (cond t [] (throughEnd bytes) ++ more)))
-        ≡ cond t [] (byte ∷ firstLine bytes) ∷ linesOf more
-    by-test ih true e = refl
-    by-test ih false e = rw (ih e)

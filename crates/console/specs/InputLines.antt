@@ -1,8 +1,9 @@
 -- The desk's language: the lines of an input, which is the list of its bytes.
-use Prim.Native.Nat.{ℕ}
+use Prim.Native.Nat.{ℕ, _-_, _^_}
 use mathlib.Core.Bool.{Bool, true, false, cond, _||_}
-use mathlib.Core.List.{List, [], _∷_}
+use mathlib.Core.List.{List, [], _∷_, _++_}
 use lib.Dec.{eqb}
+use lib.ListN.{take}
 use Rattle.words.specs.LineWords.{joined}
 
 -- "A line ends with LF or with CR."
@@ -27,3 +28,11 @@ hasEnded (byte ∷ bytes) = cond (isLineEnd byte) true (hasEnded bytes)
 abbrev pub leftOver : List ℕ → List ℕ
 leftOver [] = []
 leftOver (byte ∷ bytes) = cond (isLineEnd byte) bytes (leftOver bytes)
+
+-- a program has a budget of lines, which no input uses up
+unfoldable pub mostLines : ℕ
+mostLines = 2 ^ 64 - 1
+
+-- the lines that it serves, of what was unread and what reads have brought since
+abbrev pub linesServed : List ℕ → List ℕ → List (List ℕ)
+linesServed unread brought = take mostLines (linesOf (unread ++ brought))

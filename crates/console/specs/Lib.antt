@@ -6,3 +6,6 @@ pub mod LineReading
 pub mod LineReadingLaws
 pub mod LineWriting
 pub mod LineWritingLaws
+pub mod LinesServedLaws
+pub mod GatheringMirror
+pub mod GatheringLaws

@@ -1,86 +1,161 @@
 -- Laws of reading lines: what is held of a line goes on with each piece that comes, until one ends it or the input ends.
-use Prim.Native.Nat.{ℕ, zero, suc, _+_, _-_, _≤_, min}
+use Prim.Native.Nat.{ℕ, zero, suc, _+_, _-_, _≤_, _<_, min}
 use native.Mathlib.Omega.{arith}
 use mathlib.Core.Path.{_≡_, refl, ap, sym, _∙_}
-use mathlib.Core.Bool.{Bool, true, false, cond}
+use mathlib.Core.Bool.{Bool, true, false, cond, _&&_}
 use mathlib.Core.List.{List, [], _∷_, _++_, append-nil, append-assoc}
-use lib.Dec.{leb}
+use lib.Dec.{eqb, leb}
 use lib.ListN.{length, take, drop, length-take, length-drop, drop-of-length-le}
 use lib.Seq.{take-all, take-nil, drop-drop}
-use borrow.Author.Tests.{leb-true, leb-false}
+use borrow.Author.Tests.{eq-eqb, ne-eqb, leb-true, leb-false}
 use Rattle.console.specs.declared.Cut.{Cut}
 use Rattle.console.specs.declared.Input.{Input}
 use Rattle.console.specs.declared.Input.the-variants.{Line, Last}
-use Rattle.console.specs.InputLines.{isLineEnd, linesOf, firstLine, hasEnded, leftOver}
-use Rattle.console.specs.InputLineLaws.{lines-end, ended-line, open-line, pieces-join, left-behind}
+use Rattle.console.specs.InputLines.{isLineEnd, firstLine, hasEnded, leftOver}
+use Rattle.console.specs.InputLineLaws.{open-line, pieces-join, left-behind}
 use Rattle.console.specs.Holding.{heldOf}
-use Rattle.console.specs.HoldingLaws.{held-on-both}
-use Rattle.console.specs.LineReading.{CutMeets, NextMeets, unreadOf}
+use Rattle.console.specs.HoldingLaws.{held-on-both, further}
+use Rattle.console.specs.LineReading.{CutMeets, NextMeets, unreadOf, heldBytes, allBrought, eachBrought, mostReads, endsInput}
 
--- of all bytes that have come none ends a line, and so many of them are held
-pub record Gathered (all buffer : List ℕ) (had : ℕ) : Type 0 where
+-- of all bytes that have come none ends a line, and so many of them are held; what lies behind those is as it was
+pub record Gathered (before all buffer : List ℕ) (had : ℕ) : Type 0 where
   pub goes-on : hasEnded all ≡ false
   pub within : had ≤ length buffer
   pub line : take had buffer ≡ heldOf (length buffer) all
+  pub rest : drop had buffer ≡ drop had before
 
-pub gathers-nothing : (line : List ℕ) → Gathered [] line 0
-gathers-nothing line = record { goes-on = refl; within = omega arith; line = refl }
+gathers-nothing : (line : List ℕ) → Gathered line [] line 0
+gathers-nothing line = record { goes-on = refl; within = omega arith; line = refl; rest = refl }
 
-module _ {all line piece after : List ℕ} {had : ℕ} {r : Cut} (g : Gathered all line had) (size : length after ≡ length line)
+module _ {before all line piece after : List ℕ} {had : ℕ} {r : Cut} (g : Gathered before all line had) (size : length after ≡ length line)
     (m : CutMeets piece line had r after) where
   -- what is held of the line, with the piece
   with-piece : take (r .held) after ≡ heldOf (length after) (all ++ firstLine piece)
   with-piece = m .line ∙ rw (g .line, size, held-on-both (length line) [] all (firstLine piece))
 
-  pub piece-goes-on : r .ended ≡ false → Gathered (all ++ piece) after (r .held)
+  behind-piece : drop (r .held) after ≡ drop (r .held) before
+  behind-piece = m .rest ∙ further had (r .held) line before (m .more) (g .rest)
+
+  piece-goes-on : r .ended ≡ false → Gathered before (all ++ piece) after (r .held)
   piece-goes-on e =
       let none : hasEnded piece ≡ false = sym (m .ended) ∙ e in
-      record { goes-on = pieces-join all piece (g .goes-on) .1 ∙ none; within = m .within; line = with-piece ∙ rw (open-line piece none .0) }
+      record {
+        goes-on = pieces-join all piece (g .goes-on) .1 ∙ none;
+        within = m .within;
+        line = with-piece ∙ rw (open-line piece none .0);
+        rest = behind-piece;
+      }
 
-  pub piece-ends : (unread brought : List ℕ) → unread ++ brought ≡ all ++ piece → r .ended ≡ true
-      → NextMeets unread (Line (r .held)) (drop (r .taken) piece) after
-  piece-ends unread brought q e =
+  piece-ends : (unread : List ℕ) (reads : List (List ℕ)) → unread ++ allBrought reads ≡ all ++ piece → eachBrought reads ≡ true → r .ended ≡ true
+      → NextMeets unread before (Line (r .held)) (drop (r .taken) piece) after
+  piece-ends unread reads q each e =
       let some : hasEnded piece ≡ true = sym (m .ended) ∙ e in
       let join = pieces-join all piece (g .goes-on) in
       let here : r .taken ≡ length (firstLine piece) + 1 = m .taken ∙ rw some in
       record {
-        brought = brought;
+        reads = reads;
+        came = each;
         ended = rw q (join .1 ∙ some);
         left = rw (q, here) (left-behind piece some ∙ sym (join .2));
         within = m .within;
         line = rw (q, join .0) with-piece;
+        rest = behind-piece;
       }
 
--- the first piece, and one that comes behind all those before it
-pub first-goes-on : {line piece after : List ℕ} {r : Cut} → length after ≡ length line → CutMeets piece line 0 r after → r .ended ≡ false
-    → (brought : List ℕ) × Gathered (piece ++ brought) after (r .held)
-first-goes-on {line} {piece} size m e = ([], rw (append-nil piece) (piece-goes-on (gathers-nothing line) size m e))
-
-pub next-goes-on : (first : List ℕ) {line piece after : List ℕ} {had : ℕ} {r : Cut} (g : (brought : List ℕ) × Gathered (first ++ brought) line had)
-    → length after ≡ length line → CutMeets piece line had r after → r .ended ≡ false → (brought : List ℕ) × Gathered (first ++ brought) after (r .held)
-next-goes-on first {piece = piece} g size m e = (g .0 ++ piece, rw (← append-assoc first (g .0) piece) (piece-goes-on (g .1) size m e))
-
-pub first-ends : {line piece after : List ℕ} {r : Cut} (unread : List ℕ) → unread ≡ piece → length after ≡ length line → CutMeets piece line 0 r after
-    → r .ended ≡ true → NextMeets unread (Line (r .held)) (drop (r .taken) piece) after
-first-ends {line} {piece} unread q size m e = piece-ends (gathers-nothing line) size m unread [] (append-nil unread ∙ q) e
-
-pub next-ends : {first line piece after : List ℕ} {had : ℕ} {r : Cut} (unread : List ℕ) → unread ≡ first
-    → (g : (brought : List ℕ) × Gathered (first ++ brought) line had) → length after ≡ length line → CutMeets piece line had r after → r .ended ≡ true
-    → NextMeets unread (Line (r .held)) (drop (r .taken) piece) after
-next-ends {first} {piece = piece} unread q g size m e =
-    piece-ends (g .1) size m unread (g .0 ++ piece) (rw q (sym (append-assoc first (g .0) piece))) e
-
-pub input-ends : {first line : List ℕ} {had : ℕ} (unread : List ℕ) → unread ≡ first → (brought : List ℕ) × Gathered (first ++ brought) line had
-    → NextMeets unread (Last had) [] line
-input-ends {first} unread q g =
-    let whole = open-line (first ++ g .0) (g .1 .goes-on) in
+-- the input has ended: all that came is the last line
+input-ends : {before first line : List ℕ} {had : ℕ} (unread : List ℕ) (reads : List (List ℕ)) → unread ≡ first → endsInput reads ≡ true
+    → Gathered before (first ++ allBrought reads) line had → NextMeets unread before (Last had) [] line
+input-ends {before} {first} {line} {had} unread reads q e g =
+    let whole = open-line (first ++ allBrought reads) (g .goes-on) in
     record {
-      brought = g .0;
-      ended = rw q (g .1 .goes-on);
+      reads = reads;
+      came = e;
+      ended = rw q (g .goes-on);
       left = rw q (sym (whole .1));
-      within = g .1 .within;
-      line = rw (q, whole .0) (g .1 .line);
+      within = g .within;
+      line = rw (q, whole .0) (g .line);
+      rest = g .rest;
     }
+
+used-up : (reads : List (List ℕ)) → eachBrought reads ≡ true → length reads ≡ mostReads → endsInput reads ≡ true
+unfolding mostReads
+used-up [] each count = absurd (omega (arith, count))
+used-up (piece ∷ earlier) each count = by-test (eqb (length piece) 0) each
+  where
+    by-test : (t : Bool) → cond t false (eachBrought earlier) ≡ true → (eachBrought earlier && cond t true (eqb (suc (length earlier)) mostReads)) ≡ true
+    by-test true f = cc
+    by-test false f = rw (f, eq-eqb (suc (length earlier)) mostReads count)
+
+-- what reads have come to: each has brought something, and so many more may follow
+pub record Reading (before first buffer : List ℕ) (had budget : ℕ) : Type 0 where
+  pub reads : List (List ℕ)
+  pub each : eachBrought reads ≡ true
+  pub count : budget + length reads ≡ mostReads
+  pub gathered : Gathered before (first ++ allBrought reads) buffer had
+
+-- before the first read
+module _ {line piece after : List ℕ} {r : Cut} (size : length after ≡ length line) (m : CutMeets piece line 0 r after) where
+  pub first-goes-on : (budget : ℕ) → budget ≡ mostReads → r .ended ≡ false → Reading after piece after (r .held) budget
+  first-goes-on budget all e =
+      let g = piece-goes-on (gathers-nothing line) size m e in
+      record {
+        reads = [];
+        each = refl;
+        count = omega (arith, all);
+        gathered = rw (append-nil piece) (record { goes-on = g .goes-on; within = g .within; line = g .line; rest = refl });
+      }
+
+  pub first-ends : (unread : List ℕ) → unread ≡ piece → r .ended ≡ true → NextMeets unread line (Line (r .held)) (drop (r .taken) piece) after
+  first-ends unread q e = piece-ends (gathers-nothing line) size m unread [] (append-nil unread ∙ q) refl e
+
+some-bytes : (bytes : List ℕ) → hasEnded bytes ≡ true → eqb (length bytes) 0 ≡ false
+some-bytes [] e = cc
+some-bytes (byte ∷ bytes) e = ne-eqb (suc (length bytes)) 0 (λ q. omega (arith, q))
+
+-- a read, behind all those before it
+module _ {before first line piece after : List ℕ} {had budget : ℕ} {r : Cut} (g : Reading before first line had budget)
+    (size : length after ≡ length line) (m : CutMeets piece line had r after) where
+  joins : first ++ allBrought (piece ∷ g .reads) ≡ (first ++ allBrought (g .reads)) ++ piece
+  joins = sym (append-assoc first (allBrought (g .reads)) piece)
+
+  pub next-goes-on : (left : ℕ) → 0 < budget → left ≡ budget - 1 → r .ended ≡ false → r .none ≡ false → Reading before first after (r .held) left
+  next-goes-on left some one e n =
+      let brought : eqb (length piece) 0 ≡ false = sym (m .none) ∙ n in
+      record {
+        reads = piece ∷ g .reads;
+        each = rw brought (g .each);
+        count = omega (arith, g .count, one);
+        gathered = rw joins (piece-goes-on (g .gathered) size m e);
+      }
+
+  pub next-ends : (unread : List ℕ) → unread ≡ first → r .ended ≡ true → NextMeets unread before (Line (r .held)) (drop (r .taken) piece) after
+  next-ends unread q e =
+      let brought : eqb (length piece) 0 ≡ false = some-bytes piece (sym (m .ended) ∙ e) in
+      piece-ends (g .gathered) size m unread (piece ∷ g .reads) (rw q joins) (rw brought (g .each)) e
+
+  pub nothing-came : (unread : List ℕ) → unread ≡ first → r .ended ≡ false → r .none ≡ true → NextMeets unread before (Last (r .held)) [] after
+  nothing-came unread q e n =
+      let none : eqb (length piece) 0 ≡ true = sym (m .none) ∙ n in
+      let all : Gathered before (first ++ allBrought (piece ∷ g .reads)) after (r .held) = rw joins (piece-goes-on (g .gathered) size m e) in
+      input-ends unread (piece ∷ g .reads) q (rw (g .each, none)) all
+
+-- a buffer in which less was held before
+pub held-before : {unread line after buffer : List ℕ} {r : Input} (had : ℕ) (before : List ℕ) → had ≤ heldBytes r → drop had line ≡ drop had before
+    → NextMeets unread line r after buffer → NextMeets unread before r after buffer
+held-before {line = line} {r = r} had before more e n =
+    record {
+      reads = n .reads;
+      came = n .came;
+      ended = n .ended;
+      left = n .left;
+      within = n .within;
+      line = n .line;
+      rest = n .rest ∙ further had (heldBytes r) line before more e;
+    }
+
+pub budget-ends : {before first line : List ℕ} {had budget : ℕ} (unread : List ℕ) → unread ≡ first → budget ≤ 0
+    → Reading before first line had budget → NextMeets unread before (Last had) [] line
+budget-ends unread q none g = input-ends unread (g .reads) q (used-up (g .reads) (g .each) (omega (arith, g .count))) (g .gathered)
 
 -- what is unread by its two places, the end no further than the source and the start no further than the end
 min-within : (source : List ℕ) (at end : ℕ)
@@ -140,17 +215,3 @@ pub unread-later : (source : List ℕ) (at end taken : ℕ) → drop taken (unre
 unread-later source at end taken =
     let size : end - (at + taken) ≡ end - at - taken = omega arith in
     drop-take taken (end - at) (drop at source) ∙ rw (drop-drop taken at source, size)
-
--- lines taken call after call: of what was left unread and what came since
-pub data LinesTaken : List ℕ → List ℕ → List (List ℕ) → Type 0 where
-  last : (unread brought : List ℕ) → hasEnded (unread ++ brought) ≡ false → LinesTaken unread brought ((unread ++ brought) ∷ [])
-  next : (unread brought more : List ℕ) {lines : List (List ℕ)} → hasEnded (unread ++ brought) ≡ true
-      → LinesTaken (leftOver (unread ++ brought)) more lines → LinesTaken unread (brought ++ more) (firstLine (unread ++ brought) ∷ lines)
-
--- .. are the lines of all that came, in order, however the reads cut it
-pub lines-taken : {unread brought : List ℕ} {lines : List (List ℕ)} → LinesTaken unread brought lines → lines ≡ linesOf (unread ++ brought)
-lines-taken (last unread brought e) = sym (lines-end (unread ++ brought) e)
-lines-taken (next unread brought more e t) =
-    ap (λ (ls : List (List ℕ)). firstLine (unread ++ brought) ∷ ls) (lines-taken t)
-    ∙ sym (ended-line (unread ++ brought) more e)
-    ∙ ap linesOf (append-assoc unread brought more)

@@ -4,9 +4,9 @@ ghost use mathlib.Core.Path.{_≡_};
 ghost use lib.ListN.{length, take};
 ghost use Rattle.text.specs.Text.{written};
 ghost use Rattle.console.specs.InputLines.{isLineEnd};
-ghost use Rattle.console.specs.Holding.{held};
-ghost use Rattle.console.specs.LineReading.{CutMeets, NextMeets, unreadOf};
+ghost use Rattle.console.specs.LineReading.{CutMeets, HoldMeets, NextMeets, unreadOf};
 ghost use Rattle.console.specs.LineWriting.{lineEnd};
+ghost use Rattle.console.specs.GatheringMirror.{placeIn};
 use libc::STDIN_FILENO;
 use libc::STDOUT_FILENO;
 
@@ -28,11 +28,12 @@ pub struct LineTaken {
     pub input: Input,
 }
 
-// How many bytes were taken, how many are held of the line, and whether it has ended.
+// How many bytes were taken, how many are held of the line, whether it has ended; and whether there was no byte at all.
 pub struct Cut {
     pub taken: usize,
     pub held: usize,
     pub ended: bool,
+    pub none: bool,
 }
 
 fn is_line_end(byte: u8) -> bool
@@ -47,8 +48,7 @@ fn is_line_end(byte: u8) -> bool
 // Of a line too long for the buffer its front is held, and in the last place the first byte from there on that is no space or tab.
 fn hold_byte(line: &mut [u8], before: usize, byte: u8) -> usize
     requires { ⌜ before ≤ length (now line) ⌝ }
-    ensures { λ r. ⌜ (r ≤ length (now (line .entry)))
-        × (take r (now (line .exit)) ≡ held (length (now (line .entry))) (take before (now (line .entry))) byte) ⌝ }
+    ensures { λ r. ⌜ HoldMeets (now (line .entry)) before byte r (now (line .exit)) ⌝ }
 {
     if before < line.len() {
         line[before] = byte;
@@ -79,6 +79,7 @@ fn cut_line(bytes: &[u8], line: &mut [u8], before: usize) -> Cut
                 taken: i,
                 held: held,
                 ended: true,
+                none: false,
             };
         }
         held = hold_byte(line, held, byte);
@@ -87,6 +88,7 @@ fn cut_line(bytes: &[u8], line: &mut [u8], before: usize) -> Cut
         taken: i,
         held: held,
         ended: false,
+        none: bytes.len() == 0,
     }
 }
 
@@ -108,7 +110,7 @@ fn least(end: usize, most: usize) -> usize
 
 // The next line without its line end. The budget of reads is never used up.
 pub fn next_line(source: &mut [u8], unread: Unread, line: &mut [u8]) -> LineTaken
-    ensures { λ r. ⌜ NextMeets (unreadOf (now (source .entry)) (unread .at) (unread .end)) (r .input)
+    ensures { λ r. ⌜ NextMeets (unreadOf (now (source .entry)) (unread .at) (unread .end)) (now (line .entry)) (r .input)
         (unreadOf (now (source .exit)) (r .unread .at) (r .unread .end)) (now (line .exit)) ⌝ }
 {
     let end = least(unread.end, source.len());
@@ -139,7 +141,7 @@ pub fn next_line(source: &mut [u8], unread: Unread, line: &mut [u8]) -> LineTake
                 input: Input::Line(held),
             };
         }
-        if got == 0 {
+        if part.none {
             return LineTaken {
                 unread: Unread { at: 0, end: 0 },
                 input: Input::Last(held),
@@ -152,11 +154,16 @@ pub fn next_line(source: &mut [u8], unread: Unread, line: &mut [u8]) -> LineTake
     }
 }
 
-// Writes the text up to a place. Nothing is to be done where standard output is closed.
-pub fn write(text: &[u8], end: usize) {
+// Writes the text up to a place to a stream. Nothing is to be done where it is closed.
+pub fn write_to(stream: i32, text: &[u8], end: usize) {
     if end <= text.len() {
-        io::write_all(STDOUT_FILENO, &text[..end]);
+        io::write_all(stream, &text[..end]);
     }
+}
+
+// To standard output.
+pub fn write(text: &[u8], end: usize) {
+    write_to(STDOUT_FILENO, text, end);
 }
 
 // Writes the text up to a place, and a line end.
@@ -165,4 +172,15 @@ pub fn say(text: &mut [u8], at: usize)
 {
     let end = text::put_byte(text, at, b'\n');
     write(text, end);
+}
+
+// Writes the text out to a stream where half of it is used; the place where the next line goes.
+pub fn make_room(stream: i32, text: &[u8], at: usize) -> usize
+    ensures { λ r. ⌜ r ≡ placeIn (length (now (text .entry))) at ⌝ }
+{
+    if at < text.len() / 2 {
+        return at;
+    }
+    write_to(stream, text, at);
+    0
 }

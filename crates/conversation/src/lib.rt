@@ -1,6 +1,7 @@
 // A conversation: line after line to the end of the input, each answered in one of the desk's languages before the next is read.
 ghost use Prim.Native.Nat.{_≤_, _<_};
 ghost use lib.ListN.{length, take};
+ghost use Rattle.console.specs.LineReading.{unreadOf};
 ghost use Rattle.course.specs.Course.{opening, ServedMeets, CourseMeets};
 use answers::Bench;
 use console::Input;
@@ -52,19 +53,21 @@ fn serve_front(
     serve(language, &line[..held], bench, memory, text)
 }
 
-// Line after line, to `quit` or the end of the input. The budget of lines is never used up.
+// Line after line from what is unread of the source on, to `quit` or the end of the input. The budget of lines is never used up.
 fn run(
     language: Language,
     source: &mut [u8],
+    start: Unread,
     line: &mut [u8],
     text: &mut [u8],
     memory: &mut [u8],
 ) -> Bench
     requires { ⌜ 4096 < length (now line) ⌝ }
-    ensures { λ r. ⌜ CourseMeets language opening (now (memory .entry)) (now (text .entry)) r (now (memory .exit)) (now (text .exit)) ⌝ }
+    ensures { λ r. ⌜ CourseMeets language (unreadOf (now (source .entry)) (start .at) (start .end)) opening (now (memory .entry)) (now (text .entry))
+        r (now (memory .exit)) (now (text .exit)) ⌝ }
 {
     let mut bench = answers::opened();
-    let mut unread = Unread { at: 0, end: 0 };
+    let mut unread = start;
     let mut budget: u64 = 0xFFFFFFFFFFFFFFFF;
     while 0 < budget {
         budget -= 1;
@@ -94,5 +97,13 @@ pub fn hold(language: Language) {
     let mut line = [0u8; 4097];
     let mut text = [0u8; 4096];
     let mut memory = [0u8; 65552];
-    run(language, &mut source, &mut line, &mut text, &mut memory);
+    let nothing = Unread { at: 0, end: 0 };
+    run(
+        language,
+        &mut source,
+        nothing,
+        &mut line,
+        &mut text,
+        &mut memory,
+    );
 }

@@ -6,7 +6,7 @@ use mathlib.Core.List.{List, [], _∷_, _++_}
 use Rattle.board.specs.Board.{freshBoard, freshPlace}
 use Rattle.answers.specs.declared.Bench.{Bench}
 use Rattle.answers.specs.Bench.{Left, left, benchOf}
-use Rattle.console.specs.InputLines.{linesOf}
+use Rattle.console.specs.InputLines.{linesServed}
 use Rattle.console.specs.LineWriting.{lineEnd, laid}
 use Rattle.languages.specs.declared.Language.{Language}
 use Rattle.course.specs.declared.Served.{Served}
@@ -50,10 +50,10 @@ pub record ServedMeets (language : Language) (line : List ℕ) (bench : Bench) (
   pub over : r .over ≡ quits line
   pub said : text ≡ laid buffer (answerLine (toldText language line bench m))
 
--- the promise of a conversation: the lines of some input, the bytes that reads have brought, were served in their order, and their answers were put at the
--- front of the text in that order
-pub record CourseMeets (language : Language) (bench : Bench) (m buffer : List ℕ) (r : Bench) (after text : List ℕ) : Type 0 where
-  pub input : List ℕ
-  pub board : r ≡ course language (linesOf input) bench m .bench
-  pub memory : after ≡ course language (linesOf input) bench m .memory
-  pub said : text ≡ laid buffer (answerLines language (linesOf input) bench m)
+-- the promise of a conversation: the lines of what was unread and of some bytes, which reads have brought, were served in their order, and their answers
+-- were put at the front of the text in that order
+pub record CourseMeets (language : Language) (unread : List ℕ) (bench : Bench) (m buffer : List ℕ) (r : Bench) (after text : List ℕ) : Type 0 where
+  pub brought : List ℕ
+  pub board : r ≡ course language (linesServed unread brought) bench m .bench
+  pub memory : after ≡ course language (linesServed unread brought) bench m .memory
+  pub said : text ≡ laid buffer (answerLines language (linesServed unread brought) bench m)

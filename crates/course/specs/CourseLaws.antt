@@ -1,5 +1,5 @@
 -- Laws of the course of a conversation: what is held of a line serves as the line, and lines served one after the other are those of an input.
-use Prim.Native.Nat.{ℕ, _≤_, _<_}
+use Prim.Native.Nat.{ℕ, _-_, _≤_, _<_}
 use native.Mathlib.Omega.{arith}
 use mathlib.Core.Path.{_≡_, refl, ap, sym, _∙_}
 use mathlib.Core.Bool.{Bool, true, false, cond}
@@ -16,11 +16,12 @@ use Rattle.common_lines.specs.declared.CommonLine.{CommonLine}
 use Rattle.common_lines.specs.declared.CommonLine.the-variants.{Help, Quit, Other}
 use Rattle.common_lines.specs.CommonLines.{commonLine, isQuit, quits}
 use Rattle.console.specs.declared.Input.the-variants.{Line, Last}
-use Rattle.console.specs.InputLines.{linesOf, firstLine, hasEnded}
-use Rattle.console.specs.InputLineLaws.{lines-end, open-line, throughEnd, through-end}
+use Rattle.console.specs.InputLines.{firstLine}
+use Rattle.console.specs.InputLineLaws.{open-line}
 use Rattle.console.specs.Holding.{heldOf}
 use Rattle.console.specs.HoldingLaws.{held-all, kind-held}
-use Rattle.console.specs.LineReading.{NextMeets}
+use Rattle.console.specs.LineReading.{NextMeets, allBrought}
+use Rattle.console.specs.LinesServedLaws.{Comes, Ends, line-served, quit-served, last-served, none-served}
 use Rattle.console.specs.LineWriting.{lineEnd, laid}
 use Rattle.console.specs.LineWritingLaws.{line-laid, laid-length, laid-on}
 use Rattle.text.specs.Text.{written, Puts}
@@ -140,10 +141,6 @@ served-line {language} {front} {bench} {m} {buffer} room line some p s =
       said = s .said ∙ ap (λ (t : List ℕ). laid buffer (answerLine t)) same;
     }
 
-empty-silent : kindOf [] ≡ Silent
-unfolding kindOf
-empty-silent = refl
-
 one-told : (language : Language) (line : List ℕ) (bench : Bench) (m : List ℕ) → course language (line ∷ []) bench m ≡ told language line bench m
 one-told language line bench m = by-test (quits line) refl
   where
@@ -159,99 +156,68 @@ one-said language line bench m = by-test (quits line)
     by-test true = append-nil _
     by-test false = append-nil _
 
--- the lines of some input have led to this bench and this memory, and their answers to this text, whatever comes yet
-pub record Came (language : Language) (before : Bench) (start buffer : List ℕ) (bench : Bench) (m text : List ℕ) : Type 0 where
-  pub input : List ℕ
-  pub leads : (rest : List ℕ) → course language (linesOf (input ++ rest)) before start ≡ course language (linesOf rest) bench m
-  pub says : (rest : List ℕ)
-      → laid buffer (answerLines language (linesOf (input ++ rest)) before start) ≡ laid text (answerLines language (linesOf rest) bench m)
+-- ---- lines served one after the other
+-- what lines leave, and the text in which their answers were put
+abbrev pub Outcome : Type 0
+Outcome = Left × List ℕ
 
-pub comes-to-begin : (language : Language) (bench : Bench) (m buffer : List ℕ) → Came language bench m buffer bench m buffer
-comes-to-begin language bench m buffer = record { input = []; leads = λ rest. refl; says = λ rest. refl }
+abbrev pub outcome : Language → Bench → List ℕ → List ℕ → List (List ℕ) → Outcome
+outcome language bench m text lines = (course language lines bench m, laid text (answerLines language lines bench m))
 
-module _ (language : Language) (before : Bench) (start buffer : List ℕ) (bench : Bench) (m text : List ℕ)
-    (c : Came language before start buffer bench m text) where
-  -- a line that came in between, with its end
-  one-line : (all rest : List ℕ) → hasEnded all ≡ true
-      → course language (linesOf (c .input ++ (throughEnd all ++ rest))) before start ≡ course language (firstLine all ∷ linesOf rest) bench m
-  one-line all rest e = c .leads (throughEnd all ++ rest) ∙ ap (λ (ls : List (List ℕ)). course language ls bench m) (through-end all rest e)
+-- the lines that were served since the start have led to this bench, this memory and this text
+abbrev pub Came : Language → List ℕ → Bench → List ℕ → List ℕ → ℕ → List ℕ → Bench → List ℕ → List ℕ → Type 0
+Came language start before began buffer left unread bench m text =
+    Comes (outcome language before began buffer) start (outcome language bench m text) left unread
 
-  one-answer : (all rest : List ℕ) → hasEnded all ≡ true
-      → laid buffer (answerLines language (linesOf (c .input ++ (throughEnd all ++ rest))) before start)
-      ≡ laid text (answerLines language (firstLine all ∷ linesOf rest) bench m)
-  one-answer all rest e =
-      c .says (throughEnd all ++ rest) ∙ ap (λ (ls : List (List ℕ)). laid text (answerLines language ls bench m)) (through-end all rest e)
+module _ (language : Language) (start : List ℕ) (before : Bench) (began buffer : List ℕ) where
+  ends-course : (r : Bench) (after text : List ℕ) → Ends (outcome language before began buffer) start (left r after, text)
+      → CourseMeets language start before began buffer r after text
+  ends-course r after text e =
+      record {
+        brought = e .0;
+        board = sym (ap (λ (o : Outcome). o .0 .bench) (e .1));
+        memory = sym (ap (λ (o : Outcome). o .0 .memory) (e .1));
+        said = sym (ap (λ (o : Outcome). o .1) (e .1));
+      }
 
-  module _ {unread left line after spoken : List ℕ} {held : ℕ} {r : Served} (some : 4096 < length line)
+  module _ {fewer : ℕ} {unread m text : List ℕ} {bench : Bench} (c : Came language start before began buffer fewer unread bench m text)
+      (more : 0 < fewer) {held : ℕ} {was line behind after spoken : List ℕ} {r : Served} (some : 4096 < length line)
       (s : ServedMeets language (take held line) bench m text r after spoken) where
-    pub line-comes : NextMeets unread (Line held) left line → r .over ≡ false → Came language before start buffer (r .bench) after spoken
+    -- what the line leaves and says
+    pub line-comes : NextMeets unread was (Line held) behind line → r .over ≡ false
+        → Came language start before began buffer (fewer - 1) behind (r .bench) after spoken
     line-comes n e =
-        let all = unread ++ n .brought in
-        let first = firstLine all in
+        let first = firstLine (unread ++ allBrought (n .reads)) in
         let served = served-line (length line) first some (n .line) s in
         let goes-on : quits first ≡ false = sym (served .over) ∙ e in
-        let behind = append-assoc (c .input) (throughEnd all) in
-        record {
-          input = c .input ++ throughEnd all;
-          leads = λ rest. ap (λ (bytes : List ℕ). course language (linesOf bytes) before start) (behind rest)
-              ∙ one-line all rest (n .ended)
-              ∙ rw (goes-on, served .board, served .memory);
-          says = λ rest. ap (λ (bytes : List ℕ). laid buffer (answerLines language (linesOf bytes) before start)) (behind rest)
-              ∙ one-answer all rest (n .ended)
-              ∙ rw (goes-on, served .board, served .memory, served .said)
-              (laid-on text (answerLine (toldText language first bench m)) _);
-        }
+        let next = told language first bench m in
+        let said = answerLine (toldText language first bench m) in
+        line-served c more n (outcome language (r .bench) after spoken)
+        (λ lines.
+        rw (goes-on, served .board, served .memory, served .said)
+        (ap (λ (l : List ℕ). (course language lines (next .bench) (next .memory), l))
+        (laid-on text said (answerLines language lines (next .bench) (next .memory)))))
 
-    pub quit-comes : NextMeets unread (Line held) left line → r .over ≡ true → CourseMeets language before start buffer (r .bench) after spoken
+    pub quit-comes : NextMeets unread was (Line held) behind line → r .over ≡ true → CourseMeets language start before began buffer (r .bench) after spoken
     quit-comes n e =
-        let all = unread ++ n .brought in
-        let first = firstLine all in
+        let first = firstLine (unread ++ allBrought (n .reads)) in
         let served = served-line (length line) first some (n .line) s in
         let over : quits first ≡ true = sym (served .over) ∙ e in
         let nothing = quit-told language first bench m over in
-        let whole = one-line all [] (n .ended) in
-        record {
-          input = c .input ++ (throughEnd all ++ []);
-          board = served .board ∙ rw (whole, over, nothing);
-          memory = served .memory ∙ rw (whole, over, nothing);
-          said = served .said ∙ sym (one-answer all [] (n .ended) ∙ rw (over, append-nil (answerLine (toldText language first bench m))));
-        }
+        ends-course (r .bench) after spoken
+        (quit-served c more n (left (r .bench) after, spoken)
+        (λ lines. rw (over, served .board, served .memory, served .said, nothing, append-nil (answerLine (toldText language first bench m)))))
 
-    pub last-comes : NextMeets unread (Last held) left line → CourseMeets language before start buffer (r .bench) after spoken
+    pub last-comes : NextMeets unread was (Last held) behind line → CourseMeets language start before began buffer (r .bench) after spoken
     last-comes n =
-        let all = unread ++ n .brought in
-        let served = served-line (length line) (firstLine all) some (n .line) s in
+        let all = unread ++ allBrought (n .reads) in
         let first = open-line all (n .ended) .0 in
-        let lines = lines-end all (n .ended) in
-        let whole : course language (linesOf (c .input ++ all)) before start ≡ told language (firstLine all) bench m =
-        c .leads all ∙ ap (λ (ls : List (List ℕ)). course language ls bench m) lines ∙ one-told language all bench m
-        ∙ ap (λ (l : List ℕ). told language l bench m) (sym first) in
-        let answer : laid buffer (answerLines language (linesOf (c .input ++ all)) before start)
-        ≡ laid text (answerLine (toldText language (firstLine all) bench m)) =
-        c .says all ∙ ap (λ (ls : List (List ℕ)). laid text (answerLines language ls bench m)) lines ∙ ap (laid text) (one-said language all bench m)
-        ∙ ap (λ (l : List ℕ). laid text (answerLine (toldText language l bench m))) (sym first) in
-        record {
-          input = c .input ++ all;
-          board = served .board ∙ ap (λ (l : Left). l .bench) (sym whole);
-          memory = served .memory ∙ ap (λ (l : Left). l .memory) (sym whole);
-          said = served .said ∙ sym answer;
-        }
+        let served = served-line (length line) all some (n .line ∙ ap (heldOf (length line)) first) s in
+        ends-course (r .bench) after spoken
+        (last-served c more n (left (r .bench) after, spoken)
+        (rw (one-told language all bench m, one-said language all bench m, served .board, served .memory, served .said)))
 
-  -- .. and none came any more
-  pub none-comes : CourseMeets language before start buffer bench m text
-  none-comes =
-      record {
-        input = c .input ++ [];
-        board = ap (λ (l : Left). l .bench) whole;
-        memory = ap (λ (l : Left). l .memory) whole;
-        said = sym (c .says [] ∙ ap (laid text) (one-said language [] bench m) ∙ ap (λ (t : List ℕ). laid text (answerLine t)) nothing);
-      }
-    where
-      empty : (told language [] bench m ≡ left bench m) × (quits [] ≡ false)
-      empty = silent-told language [] bench m empty-silent
-
-      nothing : toldText language [] bench m ≡ []
-      nothing = silent-said language [] bench m empty-silent
-
-      whole : left bench m ≡ course language (linesOf (c .input ++ [])) before start
-      whole = sym (c .leads [] ∙ rw (empty .1, empty .0))
+  -- .. and none is served any more
+  pub none-comes : {fewer : ℕ} {unread m text : List ℕ} {bench : Bench} → Came language start before began buffer fewer unread bench m text → fewer ≤ 0
+      → CourseMeets language start before began buffer bench m text
+  none-comes {m = m} {text = text} {bench = bench} c none = ends-course bench m text (none-served c none)

@@ -6,7 +6,8 @@ use native.Mathlib.Omega.{arith}
 use Rattle.trace.specs.ItemLaws.{items-before-le}
 use Rattle.index.specs.declared.Entry.{Entry}
 use Rattle.index.specs.Entry.{entryAt, entryWord, ofWord}
-use Rattle.index.specs.RangeLaws.{Bytes, marker-at-most, due-at-most, run-below}
+use Rattle.index.specs.Index.{Bytes}
+use Rattle.index.specs.RangeLaws.{marker-at-most, due-at-most, run-below}
 
 -- an entry whose parts fit their places is read back from its word
 pub word-read-back : (e : Entry) → e .carried .marker < 16 → e .carried .due < 16 → e .carried .run < 16 → ofWord (e .cycle) (entryWord e) ≡ e

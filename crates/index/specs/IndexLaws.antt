@@ -14,9 +14,8 @@ use Rattle.cycle.specs.Cycle.{carriedInto}
 use Rattle.trace.specs.Items.{itemsBefore}
 use Rattle.laws.specs.StoreLaws.{sets-append}
 use Rattle.index.specs.Entry.{entryAt, entryWord, ofWord}
-use Rattle.index.specs.RangeLaws.{Bytes}
 use Rattle.index.specs.EntryWordLaws.{entry-read-back}
-use Rattle.index.specs.Index.{entryCount, firstEntries, indexWords}
+use Rattle.index.specs.Index.{entryCount, firstEntries, indexWords, Bytes}
 
 pub length-entries : (trace : List ℕ) (n : ℕ) → length (firstEntries trace n) ≡ n
 unfolding firstEntries

@@ -5,10 +5,10 @@ use mathlib.Core.Bool.{Bool, true, false, cond}
 use mathlib.Core.List.{List}
 use native.Mathlib.Omega.{arith}
 use lib.Dec.{ltb}
-use lib.ListN.{getD}
 use borrow.Author.Tests.{ltb-true}
 use Rattle.laws.specs.TestLaws.{either}
 use Rattle.cycle.specs.Cycle.{pst, marker, nibbles, after, carriedInto}
+use Rattle.index.specs.Index.{Bytes}
 
 -- a marker is 11 at most
 marker-le : (p : ℕ) → marker p ≡ true → p ≤ 11
@@ -29,10 +29,6 @@ due-at-most trace zero = omega arith
 due-at-most trace (suc i) =
     either (λ (d : ℕ). d ≤ 8) (marker (pst trace i)) (nibbles (pst trace i)) (carriedInto trace i .due - 1) (λ t. omega arith)
     (λ t. omega (arith, due-at-most trace i))
-
--- a trace of bytes, as a `&[u8]` always is
-abbrev pub Bytes : List ℕ → Type 0
-Bytes trace = (k : ℕ) → getD trace k 0 < 256
 
 -- a run has a PST for its code: of a trace of bytes it is below 16
 pub run-below : (trace : List ℕ) → Bytes trace → (i : ℕ) → carriedInto trace i .run < 16

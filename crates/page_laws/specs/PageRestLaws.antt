@@ -9,10 +9,9 @@ use Rattle.trace.specs.TraceReading.{counted, toldListing}
 use Rattle.listing.specs.Listing.{ListingMeets}
 use Rattle.index.specs.declared.Entry.{Entry}
 use Rattle.index.specs.Entry.{entryAt, ofWord, EntryMeets}
-use Rattle.index.specs.RangeLaws.{Bytes}
 use Rattle.index.specs.EntryLaws.{entry-is-the-rest}
 use Rattle.summary.specs.declared.page.Page.{Page}
-use Rattle.index.specs.Index.{indexWords}
+use Rattle.index.specs.Index.{indexWords, Bytes}
 use Rattle.index.specs.IndexLaws.{length-index, index-read-back}
 use Rattle.summary.specs.Page.{indexAfter, PageMeets}
 

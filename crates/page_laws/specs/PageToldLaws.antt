@@ -11,7 +11,7 @@ use Rattle.trace.specs.TraceReading.{counted, toldListing, reading}
 use Rattle.trace.specs.TraceReadingLaws.{read-count, whole-short}
 use Rattle.trace.specs.TraceReadingUnique.{toldListing-unique}
 use Rattle.rate.specs.declared.Rate.the-variants.{Average}
-use Rattle.index.specs.RangeLaws.{Bytes}
+use Rattle.index.specs.Index.{Bytes}
 use Rattle.summary.specs.declared.page.Page.{Page}
 use Rattle.tally.specs.Tally.{countOf, firstOf, lastOf}
 use Rattle.tally.specs.TallyLaws.{of-code}

@@ -13,7 +13,8 @@ use Rattle.cycle.specs.declared.Item.{Item}
 use Rattle.cycle.specs.Cycle.{pst, givesOwn, carriedInto}
 use Rattle.cycle.specs.CycleItems.{ofValue, ofCycle, valueItem, ownItem, itemsAt}
 use Rattle.trace.specs.Items.{itemsBefore, items}
-use Rattle.index.specs.RangeLaws.{Bytes, marker-at-most}
+use Rattle.index.specs.Index.{Bytes}
+use Rattle.index.specs.RangeLaws.{marker-at-most}
 use Rattle.tally.specs.Tally.{one, countOf, each, perCode}
 
 -- every item's code is one of the sixteen

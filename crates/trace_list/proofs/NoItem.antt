@@ -10,8 +10,8 @@ use Rattle.steps.specs.declared.Handed.the-variants.{Item as oneItem, End as at
 use Rattle.steps.specs.WalkStep.{stepOf}
 use Rattle.steps.proofs.Handed as declared
 use Rattle.walk.specs.WalkRestLaws.{rest, Unrolls}
-use Rattle.trace_list.specs.GatheringMirror.{GoodStart}
-use Rattle.trace_list.specs.GatheringLaws.{unrolls}
+use Rattle.trace_list.specs.ListerPartsMirror.{GoodStart}
+use Rattle.trace_list.specs.ListerGatheringLaws.{unrolls}
 
 pub none-left : (trace : List ℕ) (cursor : Cursor) → GoodStart (cursor .start)
     → OneOf (1 ∷ 2 ∷ []) (Declared.tagOf declared.the-type (stepOf trace cursor .handed)) → rest trace cursor ≡ []

@@ -2,7 +2,7 @@ pub mod Asked
 pub mod AskedLaws
 pub mod AskedExamples
 pub mod ListerLines
-pub mod GatheringMirror
-pub mod GatheringLaws
-pub mod PartsLaws
+pub mod ListerPartsMirror
+pub mod ListerGatheringLaws
+pub mod ListerPartsLaws
 pub mod RestPartsLaws

@@ -25,9 +25,8 @@ use Rattle.listing.specs.Listing.{listingFrom, wordsOver}
 use Rattle.listing.specs.ListingLaws.{read-from}
 use Rattle.index.specs.declared.Entry.{Entry}
 use Rattle.index.specs.Entry.{EntryMeets, entryAt, ofWord}
-use Rattle.index.specs.Index.{entryCount, indexWords}
+use Rattle.index.specs.Index.{entryCount, indexWords, Bytes}
 use Rattle.index.specs.IndexLaws.{length-index, index-read-back}
-use Rattle.index.specs.RangeLaws.{Bytes}
 use Rattle.summary.specs.declared.page.Page.{Page}
 use Rattle.summary.specs.Page.{pageVerdict, indexAfter, PageMeets}
 use Rattle.text.specs.Text.{written}
@@ -37,9 +36,10 @@ use Rattle.trace_list.specs.declared.asked.Asked.the-variants.{Whole, Fr
 use Rattle.trace_list.specs.Asked.{AskedMeets}
 use Rattle.trace_list.specs.AskedLaws.{asked-multiple}
 use Rattle.trace_list.specs.ListerLines.{refusedLine, unclearLine, linesBy, itemsOf, restBy, restLines, shownLines}
-use Rattle.trace_list.specs.PartsLaws.{joined, told-joined, whole-joined}
-use Rattle.trace_list.specs.GatheringMirror.{partsBy, entryParts, fromParts, noIndex, restPartsBy, restParts, listedPartsBy, listedParts}
-use Rattle.trace_list.specs.GatheringMirror.{shownParts, ShownMeets}
+use Rattle.console.specs.GatheringLaws.{joined}
+use Rattle.trace_list.specs.ListerPartsLaws.{told-joined, whole-joined}
+use Rattle.trace_list.specs.ListerPartsMirror.{partsBy, entryParts, fromParts, noIndex, restPartsBy, restParts, listedPartsBy, listedParts}
+use Rattle.trace_list.specs.ListerPartsMirror.{shownParts, ShownMeets}
 
 -- a listing that counts has the items that it counts, and room for their words
 from-counts : (trace : List ℕ) (e : Entry) (space n : ℕ) → listingFrom trace (e .cycle) (e .carried) space ≡ counted n
@@ -169,13 +169,13 @@ rest-joined room trace from space bytes multiple enough = by-reading (reading tr
         let short = read-short trace 0 nothing n (reading-whole trace ∙ e) in
         rw (page-judged trace (length noIndex) n e (omega arith)) (by-from n e (drop (length (indexWords trace)) noIndex) (ltb from (length trace)) refl)
 
--- whatever is asked: of a trace of bytes, the parts that are put into the text are the lines of what is asked, one behind the other
-pub shown-joined : {asked : Asked} {before after : List ℕ} → AskedMeets asked → (s : ShownMeets asked before after) → Bytes (s .trace)
+-- whatever is asked: the parts that are put into the text are the lines of what is asked, one behind the other
+pub shown-joined : {asked : Asked} {before after : List ℕ} → AskedMeets asked → (s : ShownMeets asked before after)
     → joined (shownParts (length before) (s .trace) asked) ≡ joined (shownLines (s .trace) asked)
-shown-joined {asked} {before} a s bytes = by-asked asked (asked-multiple a)
+shown-joined {asked} {before} a s = by-asked asked (asked-multiple a)
   where
     by-asked : (asked : Asked) → ((cycle : ℕ) → asked ≡ From cycle → cycle % 256 ≡ 0)
         → joined (shownParts (length before) (s .trace) asked) ≡ joined (shownLines (s .trace) asked)
     by-asked Whole m = whole-joined (length before) (s .trace)
-    by-asked (From from) m = rest-joined (length before) (s .trace) from 262144 bytes (m from refl) (omega arith)
+    by-asked (From from) m = rest-joined (length before) (s .trace) from 262144 (s .bytes) (m from refl) (omega arith)
     by-asked Unclear m = refl

@@ -6,6 +6,7 @@ use asked::Asked;
 use cycle::Item;
 use grounds::Ground;
 use libc::STDIN_FILENO;
+use libc::STDOUT_FILENO;
 use refusal_text::put_refusal_at;
 use refusal_text::put_unclear;
 use steps::Cursor;
@@ -19,24 +20,15 @@ ghost use Prim.Native.Nat.{_+_, _*_, _≤_};
 ghost use lib.ListN.{length};
 ghost use Rattle.grounds.specs.Grounds.{number};
 ghost use Rattle.trace.specs.Items.{items, words};
+ghost use Rattle.index.specs.Index.{Bytes};
 ghost use Rattle.steps.specs.WalkStep.{StartMeets};
 ghost use Rattle.text.specs.Text.{Puts, written};
 ghost use Rattle.console.specs.LineWriting.{laid};
 ghost use Rattle.trace_list.specs.ListerLines.{itemLine, itemLines, refusedLine, headLine, unclearLine};
-ghost use Rattle.trace_list.specs.GatheringMirror.{GoodStart, placeIn, parts, wholeParts, fromParts, restParts, ShownMeets, listedParts};
+ghost use Rattle.console.specs.GatheringMirror.{placeIn, parts};
+ghost use Rattle.trace_list.specs.ListerPartsMirror.{GoodStart, wholeParts, fromParts, restParts, ShownMeets, listedParts};
 ghost use Rattle.trace_list.specs.Asked.{AskedMeets};
 ghost use Rattle.trace_list.specs.declared.asked.Asked.the-variants.{Whole, From};
-
-// Writes the text out where half of it is used; the place where the next line goes.
-fn make_room(text: &[u8], at: usize) -> usize
-    ensures { λ r. ⌜ r ≡ placeIn (length (now (text .entry))) at ⌝ }
-{
-    if at < text.len() / 2 {
-        return at;
-    }
-    console::write(text, at);
-    0
-}
 
 // An item's first word.
 fn word_of(item: Item) -> u32
@@ -50,7 +42,7 @@ fn word_of(item: Item) -> u32
 fn add_item(text: &mut [u8], at: usize, word: u32, value: u32) -> usize
     ensures { λ r. ⌜ Puts (now (text .entry)) (placeIn (length (now (text .entry))) at) (itemLine word value) (now (text .exit)) r ⌝ }
 {
-    let from = make_room(text, at);
+    let from = console::make_room(STDOUT_FILENO, text, at);
     let end = put_item(text, from, word, value);
     text::put_byte(text, end, b'\n')
 }
@@ -124,7 +116,8 @@ fn write_listing(listed: Listing, cycles: usize, words: &[u32], text: &mut [u8])
 // The whole trace: how the walk's start was judged, and what its steps hand out.
 fn write_whole(trace: &[u8], text: &mut [u8])
     requires { ⌜ length (now trace) ≤ 65537 ⌝ }
-    ensures { λ _. ⌜ now (text .exit) ≡ laid (now (text .entry)) (wholeParts (length (now (text .entry))) (now (trace .entry))) ⌝ }
+    ensures { λ _. ⌜ Bytes (now (trace .entry))
+        × (now (text .exit) ≡ laid (now (text .entry)) (wholeParts (length (now (text .entry))) (now (trace .entry)))) ⌝ }
 {
     let start = walk::start_cursor(trace);
     let judged = start.start;
@@ -165,8 +158,8 @@ fn write_from(trace: &[u8], from: usize, index: &[u32], words: &mut [u32], text:
 
 // The whole trace is judged before FROM is looked up.
 fn list_from(trace: &[u8], from: usize, words: &mut [u32], text: &mut [u8])
-    ensures { λ _. ⌜ now (text .exit) ≡ laid (now (text .entry))
-        (restParts (length (now (text .entry))) (now (trace .entry)) from (length (now (words .entry)))) ⌝ }
+    ensures { λ _. ⌜ Bytes (now (trace .entry)) × (now (text .exit) ≡ laid (now (text .entry))
+        (restParts (length (now (text .entry))) (now (trace .entry)) from (length (now (words .entry))))) ⌝ }
 {
     let mut index = [0u32; 256];
     let page = page::make_page(trace, &mut index);

@@ -1,5 +1,8 @@
+use Prim.Native.Nat.{_+_, _-_}
 use mathlib.Core.Path.{sym, _∙_}
+use mathlib.Core.Path.{refl}
 use native.Mathlib.Omega.{arith}
+use lib.Seq.{drop-set-lt}
 use Rattle.console.specs.HoldingLaws.{hold-room, hold-gap, hold-none, hold-nothing}
 use borrow.Author.Needs.{needs}
 use Rattle.console.proofs.hold_byte.Statement.{statement}
@@ -15,7 +18,11 @@ same-length : tie.Need-same-length
 same-length c = search needs
 
 returns : tie.Need-returns
-returns c = (omega arith, hold-room (c .before .before .args .line .now) (c .before .before .args .before) (c .before .before .args .byte) (c .if1 .taken))
+returns c =
+    let line = c .before .before .args .line .now in
+    let had = c .before .before .args .before in
+    let byte = c .before .before .args .byte in
+    record { more = omega arith; within = omega arith; line = hold-room line had byte (c .if1 .taken); rest = drop-set-lt (had + 1) line had byte (omega arith) }
 
 sub-last : tie.Need-sub-last
 sub-last c = search needs
@@ -34,14 +41,28 @@ same-length-2 c = search needs
 
 returns-2 : tie.Need-returns-2
 returns-2 c =
-    (omega arith, hold-gap (c .before .before .before .before .before .before .args .line .now) (c .before .before .before .before .before .before .args .before) (c .before .before .before .before .before .before .args .byte) (omega arith) (sym (c .before .is-gap .ensures) ∙ c .if3 .taken))
+    let line = c .before .before .before .before .before .before .args .line .now in
+    let had = c .before .before .before .before .before .before .args .before in
+    let byte = c .before .before .before .before .before .before .args .byte in
+    record {
+      more = omega arith;
+      within = omega arith;
+      line = hold-gap line had byte (omega arith) (sym (c .before .is-gap .ensures) ∙ c .if3 .taken);
+      rest = drop-set-lt had line (had - 1) byte (omega arith);
+    }
 
 returns-3 : tie.Need-returns-3
 returns-3 c =
-    (omega arith, hold-none (c .before .before .before .before .before .before .args .line .now) (c .before .before .before .before .before .before .args .before) (c .before .before .before .before .before .before .args .byte) (omega arith) (sym (c .before .is-gap .ensures) ∙ c .if3 .left))
+    let line = c .before .before .before .before .before .before .args .line .now in
+    let had = c .before .before .before .before .before .before .args .before in
+    let byte = c .before .before .before .before .before .before .args .byte in
+    record { more = omega arith; within = omega arith; line = hold-none line had byte (omega arith) (sym (c .before .is-gap .ensures) ∙ c .if3 .left); rest = refl }
 
 returns-4 : tie.Need-returns-4
-returns-4 c = (omega arith, hold-nothing (c .before .before .before .args .line .now) (c .before .before .before .args .before) (c .before .before .before .args .byte) (omega arith) (omega arith))
+returns-4 c =
+    let line = c .before .before .before .args .line .now in
+    let had = c .before .before .before .args .before in
+    record { more = omega arith; within = omega arith; line = hold-nothing line had (c .before .before .before .args .byte) (omega arith) (omega arith); rest = refl }
 
 pub hold-byte-spec : {M : Type 1} → statement M
 hold-byte-spec =

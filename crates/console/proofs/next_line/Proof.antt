@@ -4,14 +4,14 @@ use mathlib.Core.List.{List, _++_}
 use native.Mathlib.Omega.{arith}
 use lib.ListN.{length, length-take}
 use Prim.Native.Nat.{ℕ}
-use Rattle.console.specs.LineReading.{unreadOf}
-use Rattle.console.specs.LineReadingLaws.{Gathered, first-goes-on, next-goes-on, first-ends, next-ends, input-ends, unread-within, unread-later, taken-within, drop-take}
+use Rattle.console.specs.LineReading.{unreadOf, mostReads}
+use Rattle.console.specs.LineReadingLaws.{Reading, first-goes-on, next-goes-on, first-ends, next-ends, nothing-came, budget-ends, held-before, unread-within, unread-later, taken-within, drop-take}
 use borrow.Author.Needs.{needs}
 use Rattle.console.proofs.next_line.Statement.{statement}
 use Rattle.console.proofs.next_line.Tie as tie
 
 abbrev Inv-loop : tie.InvT-loop
-Inv-loop source₀ line₀ end at held₀ budget₀ source line held budget = (length source ≡ length source₀) × (length line ≡ length line₀) × ((brought : List ℕ) × Gathered (unreadOf source₀ at end ++ brought) line held)
+Inv-loop source₀ line₀ end at held₀ budget₀ source line held budget = (length source ≡ length source₀) × (length line ≡ length line₀) × (held₀ ≤ held) × Reading line₀ (unreadOf source₀ at end) line held budget
 
 abbrev μ-loop : tie.MeasureT-loop
 μ-loop source₀ line₀ end at held₀ budget₀ source line held budget = budget
@@ -53,16 +53,16 @@ same-length-2 c = search needs
 
 returns : tie.Need-returns Inv-loop μ-loop
 returns c =
-    let source = c .before .before .before .before .before .before .before .before .before .before .before .before .args .source .now in
-    rw (unread-later source (c .before .before .before .before .before .before .before .before .least2 .result) (c .before .before .before .before .before .before .before .before .before .least .result)
-    (c .before .before .before .before .cut-line .result .taken)) at (first-ends (unreadOf source (c .before .before .before .before .before .before .before .before .before .before .before .before .args .unread .at)
-    (c .before .before .before .before .before .before .before .before .before .before .before .before .args .unread .end)) (unread-within (c .before .before .before .before .before .before .before .before .before .before .before .before .args .source .now)
-    (c .before .before .before .before .before .before .before .before .before .before .before .before .args .unread .at) (c .before .before .before .before .before .before .before .before .before .before .before .before .args .unread .end)
-    (c .before .before .before .before .before .before .before .before .least2 .result) (c .before .before .before .before .before .before .before .before .before .least .result) (c .before .before .before .before .before .before .before .before .before .least .ensures)
-    (c .before .before .before .before .before .before .before .before .least2 .ensures)) (c .before .before .before .before .cut-line .kept .1 .0) (c .before .before .before .before .cut-line .ensures) (c .before .if1 .taken))
+    let start = c .before .before .before .before .before .before .before .before .before .before .before .before .args in
+    let end = c .before .before .before .before .before .before .before .before .before .least in
+    let at = c .before .before .before .before .before .before .before .before .least2 in
+    let cut = c .before .before .before .before .cut-line in
+    rw (unread-later (start .source .now) (at .result) (end .result) (cut .result .taken)) at (first-ends (cut .kept .1 .0) (cut .ensures) (unreadOf (start .source .now) (start .unread .at) (start .unread .end))
+    (unread-within (start .source .now) (start .unread .at) (start .unread .end) (at .result) (end .result) (end .ensures) (at .ensures)) (c .before .if1 .taken))
 
 loop-holds : tie.Need-loop-holds Inv-loop μ-loop
-loop-holds c = (refl, refl, first-goes-on (c .before .before .before .cut-line .kept .1 .0) (c .before .before .before .cut-line .ensures) (c .if1 .left))
+unfolding mostReads
+loop-holds c = (refl, refl, omega arith, first-goes-on (c .before .before .before .cut-line .kept .1 .0) (c .before .before .before .cut-line .ensures) _ refl (c .if1 .left))
 
 sub-budget : tie.Need-sub-budget Inv-loop μ-loop
 sub-budget c = search needs
@@ -87,17 +87,15 @@ same-length-4 c = search needs
 
 returns-2 : tie.Need-returns-2 Inv-loop μ-loop
 returns-2 c =
-    rw (drop-take _ _ _) at (next-ends (unreadOf (c .before .before .before .before .before .before .before .before .before .before .before .before .before .before .before .before .before .before .before .before .before .before .before .args .source .now)
-    (c .before .before .before .before .before .before .before .before .before .before .before .before .before .before .before .before .before .before .before .before .before .before .before .args .unread .at)
-    (c .before .before .before .before .before .before .before .before .before .before .before .before .before .before .before .before .before .before .before .before .before .before .before .args .unread .end)) (unread-within
-    (c .before .before .before .before .before .before .before .before .before .before .before .before .before .before .before .before .before .before .before .before .before .before .before .args .source .now)
-    (c .before .before .before .before .before .before .before .before .before .before .before .before .before .before .before .before .before .before .before .before .before .before .before .args .unread .at)
-    (c .before .before .before .before .before .before .before .before .before .before .before .before .before .before .before .before .before .before .before .before .before .before .before .args .unread .end)
-    (c .before .before .before .before .before .before .before .before .before .before .before .before .before .before .before .before .before .before .before .least2 .result)
+    let start = c .before .before .before .before .before .before .before .before .before .before .before .before .before .before .before .before .before .before .before .before .before .before .before .args in
+    let first = c .before .before .before .before .before .before .before .before .before .before .before .before .before .before .before .cut-line in
+    let here = c .before .before .before .before .before .before .before .before .before .before .before .loop in
+    rw (drop-take _ _ _) at (held-before (first .result .held) (start .line .now) (omega (arith, here .inv .2, c .before .before .before .cut-line2 .ensures .more)) (first .ensures .rest) (next-ends (here .inv .3)
+    (c .before .before .before .cut-line2 .kept .1 .0) (c .before .before .before .cut-line2 .ensures) (unreadOf (start .source .now) (start .unread .at) (start .unread .end))
+    (unread-within (start .source .now) (start .unread .at) (start .unread .end) (c .before .before .before .before .before .before .before .before .before .before .before .before .before .before .before .before .before .before .before .least2 .result)
     (c .before .before .before .before .before .before .before .before .before .before .before .before .before .before .before .before .before .before .before .before .least .result)
     (c .before .before .before .before .before .before .before .before .before .before .before .before .before .before .before .before .before .before .before .before .least .ensures)
-    (c .before .before .before .before .before .before .before .before .before .before .before .before .before .before .before .before .before .before .before .least2 .ensures)) (c .before .before .before .before .before .before .before .before .before .before .before .loop .inv .2)
-    (c .before .before .before .cut-line2 .kept .1 .0) (c .before .before .before .cut-line2 .ensures) (c .if2 .taken))
+    (c .before .before .before .before .before .before .before .before .before .before .before .before .before .before .before .before .before .before .before .least2 .ensures)) (c .if2 .taken)))
 
 same-length-5 : tie.Need-same-length-5 Inv-loop μ-loop
 same-length-5 c = search needs
@@ -107,35 +105,29 @@ same-length-6 c = search needs
 
 returns-3 : tie.Need-returns-3 Inv-loop μ-loop
 returns-3 c =
-    input-ends (unreadOf (c .before .before .before .before .before .before .before .before .before .before .before .before .before .before .before .before .before .before .before .before .before .before .before .before .args .source .now)
-    (c .before .before .before .before .before .before .before .before .before .before .before .before .before .before .before .before .before .before .before .before .before .before .before .before .args .unread .at)
-    (c .before .before .before .before .before .before .before .before .before .before .before .before .before .before .before .before .before .before .before .before .before .before .before .before .args .unread .end)) (unread-within
-    (c .before .before .before .before .before .before .before .before .before .before .before .before .before .before .before .before .before .before .before .before .before .before .before .before .args .source .now)
-    (c .before .before .before .before .before .before .before .before .before .before .before .before .before .before .before .before .before .before .before .before .before .before .before .before .args .unread .at)
-    (c .before .before .before .before .before .before .before .before .before .before .before .before .before .before .before .before .before .before .before .before .before .before .before .before .args .unread .end)
+    let start = c .before .before .before .before .before .before .before .before .before .before .before .before .before .before .before .before .before .before .before .before .before .before .before .before .args in
+    let first = c .before .before .before .before .before .before .before .before .before .before .before .before .before .before .before .before .cut-line in
+    let here = c .before .before .before .before .before .before .before .before .before .before .before .before .loop in
+    held-before (first .result .held) (start .line .now) (omega (arith, here .inv .2, c .before .before .before .before .cut-line2 .ensures .more)) (first .ensures .rest) (nothing-came (here .inv .3)
+    (c .before .before .before .before .cut-line2 .kept .1 .0) (c .before .before .before .before .cut-line2 .ensures) (unreadOf (start .source .now) (start .unread .at) (start .unread .end))
+    (unread-within (start .source .now) (start .unread .at) (start .unread .end)
     (c .before .before .before .before .before .before .before .before .before .before .before .before .before .before .before .before .before .before .before .before .least2 .result)
     (c .before .before .before .before .before .before .before .before .before .before .before .before .before .before .before .before .before .before .before .before .before .least .result)
     (c .before .before .before .before .before .before .before .before .before .before .before .before .before .before .before .before .before .before .before .before .before .least .ensures)
-    (c .before .before .before .before .before .before .before .before .before .before .before .before .before .before .before .before .before .before .before .before .least2 .ensures)) (next-goes-on (unreadOf
-    (c .before .before .before .before .before .before .before .before .before .before .before .before .before .before .before .before .before .before .before .before .before .before .before .before .args .source .now)
-    (c .before .before .before .before .before .before .before .before .before .before .before .before .before .before .before .before .before .before .before .before .least2 .result)
-    (c .before .before .before .before .before .before .before .before .before .before .before .before .before .before .before .before .before .before .before .before .before .least .result))
-    (c .before .before .before .before .before .before .before .before .before .before .before .before .loop .inv .2) (c .before .before .before .before .cut-line2 .kept .1 .0) (c .before .before .before .before .cut-line2 .ensures) (c .before .if2 .left))
+    (c .before .before .before .before .before .before .before .before .before .before .before .before .before .before .before .before .before .before .before .before .least2 .ensures)) (c .before .if2 .left) (c .if3 .taken))
 
 loop-less : tie.Need-loop-less Inv-loop μ-loop
 loop-less c = search needs
 
 loop-again : tie.Need-loop-again Inv-loop μ-loop
-loop-again c = (
-  c .before .before .before .before .before .before .before .before .before .refill .kept .0 ∙ c .before .before .before .before .before .before .before .before .before .before .before .before .loop .inv .0,
-  c .before .before .before .before .cut-line2 .kept .1 .0
-      ∙ c .before .before .before .before .before .before .before .before .before .before .before .before .loop .inv .1,
-  next-goes-on (unreadOf
-      (c .before .before .before .before .before .before .before .before .before .before .before .before .before .before .before .before .before .before .before .before .before .before .before .before .args .source .now)
-      (c .before .before .before .before .before .before .before .before .before .before .before .before .before .before .before .before .before .before .before .before .least2 .result)
-      (c .before .before .before .before .before .before .before .before .before .before .before .before .before .before .before .before .before .before .before .before .before .least .result))
-      (c .before .before .before .before .before .before .before .before .before .before .before .before .loop .inv .2) (c .before .before .before .before .cut-line2 .kept .1 .0) (c .before .before .before .before .cut-line2 .ensures) (c .before .if2 .left),
-)
+loop-again c =
+    let here = c .before .before .before .before .before .before .before .before .before .before .before .before .loop in
+    let cut = c .before .before .before .before .cut-line2 in (
+      c .before .before .before .before .before .before .before .before .before .refill .kept .0 ∙ here .inv .0,
+      cut .kept .1 .0 ∙ here .inv .1,
+      omega (arith, here .inv .2, cut .ensures .more),
+      next-goes-on (here .inv .3) (cut .kept .1 .0) (cut .ensures) _ (c .before .before .before .before .before .before .before .before .before .before .before .loop-test .taken) refl (c .before .if2 .left) (c .if3 .left),
+    )
 
 same-length-7 : tie.Need-same-length-7 Inv-loop μ-loop
 same-length-7 c = search needs
@@ -145,11 +137,12 @@ same-length-8 c = search needs
 
 returns-4 : tie.Need-returns-4 Inv-loop μ-loop
 returns-4 c =
-    input-ends (unreadOf (c .before .before .before .before .before .before .before .before .before .before .before .before .before .args .source .now) (c .before .before .before .before .before .before .before .before .before .before .before .before .before .args .unread .at)
-    (c .before .before .before .before .before .before .before .before .before .before .before .before .before .args .unread .end)) (unread-within (c .before .before .before .before .before .before .before .before .before .before .before .before .before .args .source .now)
-    (c .before .before .before .before .before .before .before .before .before .before .before .before .before .args .unread .at) (c .before .before .before .before .before .before .before .before .before .before .before .before .before .args .unread .end)
-    (c .before .before .before .before .before .before .before .before .before .least2 .result) (c .before .before .before .before .before .before .before .before .before .before .least .result)
-    (c .before .before .before .before .before .before .before .before .before .before .least .ensures) (c .before .before .before .before .before .before .before .before .before .least2 .ensures)) (c .before .loop .inv .2)
+    let start = c .before .before .before .before .before .before .before .before .before .before .before .before .before .args in
+    let first = c .before .before .before .before .before .cut-line in
+    held-before (first .result .held) (start .line .now) (omega (arith, c .before .loop .inv .2)) (first .ensures .rest) (budget-ends (unreadOf (start .source .now) (start .unread .at) (start .unread .end))
+    (unread-within (start .source .now) (start .unread .at) (start .unread .end) (c .before .before .before .before .before .before .before .before .before .least2 .result)
+    (c .before .before .before .before .before .before .before .before .before .before .least .result) (c .before .before .before .before .before .before .before .before .before .before .least .ensures)
+    (c .before .before .before .before .before .before .before .before .before .least2 .ensures)) (c .loop-test .left) (c .before .loop .inv .3))
 
 pub next-line-spec : {M : Type 1} → statement M
 next-line-spec =

@@ -3,7 +3,10 @@ use lib.ListN.{length}
 use mathlib.Core.Path.{_≡_, refl, _∙_}
 use native.Mathlib.Omega.{arith}
 use Rattle.course.specs.Course.{opening}
-use Rattle.course.specs.CourseLaws.{Came, comes-to-begin, line-comes, quit-comes, last-comes, none-comes}
+use Rattle.console.specs.InputLines.{mostLines}
+use Rattle.console.specs.LineReading.{unreadOf}
+use Rattle.console.specs.LinesServedLaws.{comes-to-begin}
+use Rattle.course.specs.CourseLaws.{Came, line-comes, quit-comes, last-comes, none-comes}
 use borrow.Author.Needs.{needs}
 use Rattle.conversation.proofs.run.Statement.{statement}
 use Rattle.conversation.proofs.run.Tie as tie
@@ -11,7 +14,7 @@ use Rattle.conversation.proofs.run.Tie as tie
 abbrev Inv-loop : tie.InvT-loop
 Inv-loop language source₀ line₀ text₀ memory₀ bench₀ unread₀ budget₀ source line text memory bench unread budget =
     (length source ≡ length source₀) × (length line ≡ length line₀) × (length text ≡ length text₀) × (length memory ≡ length memory₀)
-    × Came language opening memory₀ text₀ bench memory text
+    × Came language (unreadOf source₀ (unread₀ .at) (unread₀ .end)) opening memory₀ text₀ budget (unreadOf source (unread .at) (unread .end)) bench memory text
 
 abbrev μ-loop : tie.MeasureT-loop
 μ-loop language source₀ line₀ text₀ memory₀ bench₀ unread₀ budget₀ source line text memory bench unread budget = budget
@@ -20,7 +23,8 @@ opened-requires : tie.Need-opened-requires Inv-loop μ-loop
 opened-requires c κs = search needs
 
 loop-holds : tie.Need-loop-holds Inv-loop μ-loop
-loop-holds c = (refl, refl, refl, refl, rw (c .opened .ensures) (comes-to-begin (c .before .before .before .before .before .args .language) opening (c .before .before .before .before .before .args .memory .now) (c .before .before .before .before .before .args .text .now)))
+unfolding mostLines
+loop-holds c = (refl, refl, refl, refl, rw (c .opened .ensures) (comes-to-begin _ _ _ refl))
 
 sub-budget : tie.Need-sub-budget Inv-loop μ-loop
 sub-budget c = search needs
@@ -52,48 +56,37 @@ same-length-4 c = c .before .before .before .before .before .before .serve-front
 
 returns : tie.Need-returns Inv-loop μ-loop
 returns c =
-    quit-comes (c .before .before .before .before .before .before .before .before .before .before .before .before .before .before .before .before .before .before .before .before .before .before .before .before .before .before .before .before .args .language) opening
-    (c .before .before .before .before .before .before .before .before .before .before .before .before .before .before .before .before .before .before .before .before .before .before .before .before .before .before .before .before .args .memory .now)
-    (c .before .before .before .before .before .before .before .before .before .before .before .before .before .before .before .before .before .before .before .before .before .before .before .before .before .before .before .before .args .text .now)
-    (c .before .before .before .before .before .before .before .before .before .before .before .before .before .before .before .before .before .before .before .before .before .before .loop .bench)
-    (c .before .before .before .before .before .before .before .before .before .before .before .before .before .before .before .before .before .before .before .before .before .before .loop .memory)
-    (c .before .before .before .before .before .before .before .before .before .before .before .before .before .before .before .before .before .before .before .before .before .before .loop .text)
-    (c .before .before .before .before .before .before .before .before .before .before .before .before .before .before .before .before .before .before .before .before .before .before .loop .inv .4)
-    (omega (
+    let here = c .before .before .before .before .before .before .before .before .before .before .before .before .before .before .before .before .before .before .before .before .before .before .loop in
+    let next = c .before .before .before .before .before .before .before .before .before .before .before .before .before .before .before .before .before .before .next-line in
+    let served = c .before .before .before .before .before .before .serve-front in
+    let taken = rw (c .before .before .before .before .before .before .before .before .before .before .before .input .given .1) at (next .ensures) in
+    quit-comes _ _ opening _ _ (here .inv .4) (c .before .before .before .before .before .before .before .before .before .before .before .before .before .before .before .before .before .before .before .before .before .loop-test .taken) (omega (
       arith,
       c .before .before .before .before .before .before .before .before .before .before .before .before .before .before .before .before .before .before .before .before .before .before .before .before .before .before .before .before .pre,
-      c .before .before .before .before .before .before .before .before .before .before .before .before .before .before .before .before .before .before .before .before .before .before .loop .inv .1,
-      c .before .before .before .before .before .before .before .before .before .before .before .before .before .before .before .before .before .before .next-line .kept .1 .1 .0,
-    )) (c .before .before .before .before .before .before .serve-front .ensures) (rw
-    (c .before .before .before .before .before .before .before .before .before .before .before .input .given .1) at (c .before .before .before .before .before .before .before .before .before .before .before .before .before .before .before .before .before .before .next-line .ensures)) (c .if1 .taken)
+      here .inv .1,
+      next .kept .1 .1 .0,
+    )) (served .ensures) taken (c .if1 .taken)
 
 loop-less : tie.Need-loop-less Inv-loop μ-loop
 loop-less c = omega (arith, c .before .before .before .before .before .before .before .before .before .before .before .before .before .before .before .before .before .before .before .before .before .loop-test .taken)
 
 loop-again : tie.Need-loop-again Inv-loop μ-loop
-loop-again c = (
-  c .before .before .before .before .before .before .before .before .before .before .before .before .before .before .before .before .before .before .next-line .kept .0
-      ∙ c .before .before .before .before .before .before .before .before .before .before .before .before .before .before .before .before .before .before .before .before .before .before .loop .inv .0,
-  c .before .before .before .before .before .before .before .before .before .before .before .before .before .before .before .before .before .before .next-line .kept .1 .1 .0
-      ∙ c .before .before .before .before .before .before .before .before .before .before .before .before .before .before .before .before .before .before .before .before .before .before .loop .inv .1,
-  c .before .before .before .before .before .before .serve-front .kept .1 .1 .1 .1 .1 .0 ∙ c .before .before .before .before .before .before .before .before .before .before .before .before .before .before .before .before .before .before .before .before .before .before .loop .inv .2,
-  c .before .before .before .before .before .before .serve-front .kept .1 .1 .1 .1 .0 ∙ c .before .before .before .before .before .before .before .before .before .before .before .before .before .before .before .before .before .before .before .before .before .before .loop .inv .3,
-  line-comes (c .before .before .before .before .before .before .before .before .before .before .before .before .before .before .before .before .before .before .before .before .before .before .before .before .before .before .before .before .args .language) opening
-      (c .before .before .before .before .before .before .before .before .before .before .before .before .before .before .before .before .before .before .before .before .before .before .before .before .before .before .before .before .args .memory .now)
-      (c .before .before .before .before .before .before .before .before .before .before .before .before .before .before .before .before .before .before .before .before .before .before .before .before .before .before .before .before .args .text .now)
-      (c .before .before .before .before .before .before .before .before .before .before .before .before .before .before .before .before .before .before .before .before .before .before .loop .bench)
-      (c .before .before .before .before .before .before .before .before .before .before .before .before .before .before .before .before .before .before .before .before .before .before .loop .memory)
-      (c .before .before .before .before .before .before .before .before .before .before .before .before .before .before .before .before .before .before .before .before .before .before .loop .text)
-      (c .before .before .before .before .before .before .before .before .before .before .before .before .before .before .before .before .before .before .before .before .before .before .loop .inv .4)
-      (omega (
+loop-again c =
+    let here = c .before .before .before .before .before .before .before .before .before .before .before .before .before .before .before .before .before .before .before .before .before .before .loop in
+    let next = c .before .before .before .before .before .before .before .before .before .before .before .before .before .before .before .before .before .before .next-line in
+    let served = c .before .before .before .before .before .before .serve-front in
+    let taken = rw (c .before .before .before .before .before .before .before .before .before .before .before .input .given .1) at (next .ensures) in (
+      next .kept .0 ∙ here .inv .0,
+      next .kept .1 .1 .0 ∙ here .inv .1,
+      served .kept .1 .1 .1 .1 .1 .0 ∙ here .inv .2,
+      served .kept .1 .1 .1 .1 .0 ∙ here .inv .3,
+      line-comes _ _ opening _ _ (here .inv .4) (c .before .before .before .before .before .before .before .before .before .before .before .before .before .before .before .before .before .before .before .before .before .loop-test .taken) (omega (
         arith,
         c .before .before .before .before .before .before .before .before .before .before .before .before .before .before .before .before .before .before .before .before .before .before .before .before .before .before .before .before .pre,
-        c .before .before .before .before .before .before .before .before .before .before .before .before .before .before .before .before .before .before .before .before .before .before .loop .inv .1,
-        c .before .before .before .before .before .before .before .before .before .before .before .before .before .before .before .before .before .before .next-line .kept .1 .1 .0,
-      )) (c .before .before .before .before .before .before .serve-front .ensures) (rw
-      (c .before .before .before .before .before .before .before .before .before .before .before .input .given .1) at
-      (c .before .before .before .before .before .before .before .before .before .before .before .before .before .before .before .before .before .before .next-line .ensures)) (c .if1 .left),
-)
+        here .inv .1,
+        next .kept .1 .1 .0,
+      )) (served .ensures) taken (c .if1 .left),
+    )
 
 enum-known-input-2 : tie.Need-enum-known-input-2 Inv-loop μ-loop
 enum-known-input-2 c = search needs
@@ -119,20 +112,16 @@ same-length-8 c = c .before .before .before .before .before .serve-front2 .kept 
 
 returns-2 : tie.Need-returns-2 Inv-loop μ-loop
 returns-2 c =
-    last-comes (c .before .before .before .before .before .before .before .before .before .before .before .before .before .before .before .before .before .before .before .before .before .before .before .before .before .before .before .args .language) opening
-    (c .before .before .before .before .before .before .before .before .before .before .before .before .before .before .before .before .before .before .before .before .before .before .before .before .before .before .before .args .memory .now)
-    (c .before .before .before .before .before .before .before .before .before .before .before .before .before .before .before .before .before .before .before .before .before .before .before .before .before .before .before .args .text .now)
-    (c .before .before .before .before .before .before .before .before .before .before .before .before .before .before .before .before .before .before .before .before .before .loop .bench)
-    (c .before .before .before .before .before .before .before .before .before .before .before .before .before .before .before .before .before .before .before .before .before .loop .memory)
-    (c .before .before .before .before .before .before .before .before .before .before .before .before .before .before .before .before .before .before .before .before .before .loop .text)
-    (c .before .before .before .before .before .before .before .before .before .before .before .before .before .before .before .before .before .before .before .before .before .loop .inv .4)
-    (omega (
+    let here = c .before .before .before .before .before .before .before .before .before .before .before .before .before .before .before .before .before .before .before .before .before .loop in
+    let next = c .before .before .before .before .before .before .before .before .before .before .before .before .before .before .before .before .before .next-line in
+    let served = c .before .before .before .before .before .serve-front2 in
+    let taken = rw (c .before .before .before .before .before .before .before .before .before .before .input2 .given .1) at (next .ensures) in
+    last-comes _ _ opening _ _ (here .inv .4) (c .before .before .before .before .before .before .before .before .before .before .before .before .before .before .before .before .before .before .before .before .loop-test .taken) (omega (
       arith,
       c .before .before .before .before .before .before .before .before .before .before .before .before .before .before .before .before .before .before .before .before .before .before .before .before .before .before .before .pre,
-      c .before .before .before .before .before .before .before .before .before .before .before .before .before .before .before .before .before .before .before .before .before .loop .inv .1,
-      c .before .before .before .before .before .before .before .before .before .before .before .before .before .before .before .before .before .next-line .kept .1 .1 .0,
-    )) (c .before .before .before .before .before .serve-front2 .ensures) (rw
-    (c .before .before .before .before .before .before .before .before .before .before .input2 .given .1) at (c .before .before .before .before .before .before .before .before .before .before .before .before .before .before .before .before .before .next-line .ensures))
+      here .inv .1,
+      next .kept .1 .1 .0,
+    )) (served .ensures) taken
 
 same-length-9 : tie.Need-same-length-9 Inv-loop μ-loop
 same-length-9 c = search needs
@@ -147,11 +136,7 @@ same-length-12 : tie.Need-same-length-12 Inv-loop μ-loop
 same-length-12 c = search needs
 
 returns-3 : tie.Need-returns-3 Inv-loop μ-loop
-returns-3 c = none-comes (c .before .before .before .before .before .before .before .args .language) opening (c .before .before .before .before .before .before .before .args .memory .now)
-    (c .before .before .before .before .before .before .before .args .text .now)
-    (c .before .loop .bench) (c .before .loop .memory)
-    (c .before .loop .text)
-    (c .before .loop .inv .4)
+returns-3 c = none-comes _ _ opening _ _ (c .before .loop .inv .4) (c .loop-test .left)
 
 pub run-spec : {M : Type 1} → statement M
 run-spec =

@@ -1,3 +1,4 @@
+use native.Mathlib.Omega.{arith}
 use mathlib.Core.List.{[]}
 use borrow.Author.Needs.{needs}
 use Rattle.trace_list.proofs.answer.Statement.{statement}
@@ -37,7 +38,7 @@ same-length c = search needs
 
 -- src/main.rt:198:1
 returns : tie.Need-returns
-returns c = rw (c .before .before .before .before .enum-told .given .1) (record { trace = []; shown = c .before .before .say-unclear .ensures })
+returns c = rw (c .before .before .before .before .enum-told .given .1) (record { trace = []; bytes = λ k. omega arith; shown = c .before .before .say-unclear .ensures })
 
 -- src/main.rt:198:1
 same-length-2 : tie.Need-same-length-2

@@ -39,10 +39,11 @@ same-length c = search needs
 returns : tie.Need-returns
 returns c =
     let a = c .before .before .before .before .before .before .before .before .before .before .before .before .before .args in
-    rest-refused (a .text .now) (a .trace .now) (a .from) _
-    (c .before .before .before .before .before .before .before .before .make-page .ensures) _ _
-    (c .before .before .before .before .before .judged .given .1)
-    (c .before .before .say-refusal .ensures)
+    let bytes = c .before .before .before .before .before .before .before .before .before .before .before .before .shared-slice-known in (
+      λ i. bytes .given i .fits,
+      rest-refused (a .text .now) (a .trace .now) (a .from) _ (c .before .before .before .before .before .before .before .before .make-page .ensures) _ _
+          (c .before .before .before .before .before .judged .given .1) (c .before .before .say-refusal .ensures),
+    )
 
 -- src/main.rt:163:1
 same-length-2 : tie.Need-same-length-2
@@ -56,10 +57,12 @@ same-length-3 c = search needs
 returns-2 : tie.Need-returns-2
 returns-2 c =
     let a = c .before .before .before .before .before .before .before .before .before .before .before .before .before .before .before .before .args in
-    rest-listed (a .text .now) (a .trace .now) (a .from) _
-    (c .before .before .before .before .before .before .before .before .before .before .before .make-page .ensures) _
-    (c .before .before .before .before .before .before .before .before .enum-told .given .1)
-    (c .before .before .before .before .write-from .ensures)
+    let bytes = c .before .before .before .before .before .before .before .before .before .before .before .before .before .before .before .shared-slice-known in (
+      λ i. bytes .given i .fits,
+      rest-listed (a .text .now) (a .trace .now) (a .from) _
+          (c .before .before .before .before .before .before .before .before .before .before .before .make-page .ensures) _
+          (c .before .before .before .before .before .before .before .before .enum-told .given .1) (c .before .before .before .before .write-from .ensures),
+    )
 
 pub list-from-spec : {M : Type 1} → statement M
 list-from-spec =

@@ -33,7 +33,9 @@ same-length c = search needs
 
 -- src/main.rt:189:1
 returns : tie.Need-returns
-returns c = record { trace = _; shown = rw length-replicate at (c .before .before .before .list-from .ensures) }
+returns c =
+    let listed = c .before .before .before .list-from .ensures in
+    record { trace = _; bytes = listed .0; shown = rw length-replicate at (listed .1) }
 
 pub list-rest-spec : {M : Type 1} → statement M
 list-rest-spec =

@@ -1,6 +1,7 @@
 use native.Mathlib.Omega.{arith}
 use Rattle.trace_list.specs.ListerLines.{itemLines}
-use Rattle.trace_list.specs.GatheringLaws.{Gathering, gathers-none, gathers-line, gathers-all, lines-on, lines-out}
+use Rattle.console.specs.GatheringLaws.{Gathering, gathers-none, gathers-line, gathers-all}
+use Rattle.trace_list.specs.ListerGatheringLaws.{lines-on, lines-out}
 use Prim.Native.Nat.{_≤_, _-_, _*_}
 use lib.ListN.{length, drop}
 use mathlib.Core.Path.{_≡_, refl}

@@ -1,4 +1,4 @@
-use Rattle.trace_list.specs.GatheringLaws.{listed-refused, listed-all, listed-head}
+use Rattle.trace_list.specs.ListerGatheringLaws.{listed-refused, listed-all, listed-head}
 use lib.Seq.{length-take-le}
 use mathlib.Core.Path.{sym}
 use borrow.Author.Needs.{needs}

@@ -1,7 +1,8 @@
 use Rattle.trace.specs.Items.{items, words}
 use Rattle.trace_list.specs.ListerLines.{itemLines}
-use Rattle.trace_list.specs.GatheringMirror.{GoodStart}
-use Rattle.trace_list.specs.GatheringLaws.{Gathering, gathers-none, gathers-line, gathers-all, start-rest, stays-good, item-first}
+use Rattle.trace_list.specs.ListerPartsMirror.{GoodStart}
+use Rattle.console.specs.GatheringLaws.{Gathering, gathers-none, gathers-line, gathers-all}
+use Rattle.trace_list.specs.ListerGatheringLaws.{start-rest, stays-good, item-first}
 use Rattle.trace_list.proofs.NoItem.{none-left}
 -- The loop's measure: the items that the walk has yet to hand out.
 use mathlib.Core.Path.{_≡_, refl, ap, sym, _∙_}

@@ -1,4 +1,4 @@
-use Rattle.trace_list.specs.GatheringLaws.{whole-refused, whole-listed}
+use Rattle.trace_list.specs.ListerGatheringLaws.{whole-refused, whole-listed}
 use borrow.Author.Needs.{needs}
 use Rattle.trace_list.proofs.write_whole.Statement.{statement}
 use Rattle.trace_list.proofs.write_whole.Tie as tie
@@ -35,10 +35,11 @@ same-length c = search needs
 returns : tie.Need-returns
 returns c =
     let a = c .before .before .before .before .before .before .before .before .before .before .args in
-    whole-refused _ (a .text .now) _
-    (c .before .before .before .before .before .before .before .start-cursor .ensures .judged) _ _
-    (c .before .before .before .before .before .judged .given .1)
-    (c .before .before .say-refusal .ensures)
+    let bytes = c .before .before .before .before .before .before .before .before .before .shared-slice-known in (
+      λ i. bytes .given i .fits,
+      whole-refused _ (a .text .now) _ (c .before .before .before .before .before .before .before .start-cursor .ensures .judged) _ _
+          (c .before .before .before .before .before .judged .given .1) (c .before .before .say-refusal .ensures),
+    )
 
 -- src/main.rt:123:1
 same-length-2 : tie.Need-same-length-2
@@ -48,11 +49,12 @@ same-length-2 c = search needs
 returns-2 : tie.Need-returns-2
 returns-2 c =
     let a = c .before .before .before .before .before .before .before .before .before .before .before .before .before .before .args in
-    whole-listed _ (a .text .now) _
-    (c .before .before .before .before .before .before .before .before .before .before .before .start-cursor .ensures .judged) _
-    (c .before .before .before .before .before .before .before .before .before .judged2 .given .1)
-    (c .before .before .before .before .before .before .say-head .ensures)
-    (c .before .before .write-walk .ensures)
+    let bytes = c .before .before .before .before .before .before .before .before .before .before .before .before .before .shared-slice-known in (
+      λ i. bytes .given i .fits,
+      whole-listed _ (a .text .now) _ (c .before .before .before .before .before .before .before .before .before .before .before .start-cursor .ensures .judged) _
+          (c .before .before .before .before .before .before .before .before .before .judged2 .given .1)
+          (c .before .before .before .before .before .before .say-head .ensures) (c .before .before .write-walk .ensures),
+    )
 
 pub write-whole-spec : {M : Type 1} → statement M
 write-whole-spec =

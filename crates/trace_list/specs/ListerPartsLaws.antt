@@ -12,39 +12,8 @@ use Rattle.trace.specs.Items.{items, words}
 use Rattle.trace.specs.TraceReading.{Told, refusal, counted, reading}
 use Rattle.text.specs.NumberText.{digitsText, widthFrom, width, decimalText}
 use Rattle.trace_list.specs.ListerLines.{itemLine, itemLines, refusedLine, headLine, linesBy, wholeLines}
-use Rattle.trace_list.specs.GatheringMirror.{partsFrom, partsBy, wholeParts}
-
--- all of some texts, one behind the other
-abbrev pub joined : List (List ℕ) → List ℕ
-joined [] = []
-joined (text ∷ texts) = text ++ joined texts
-
--- THE LAW: the parts written out, one behind the other, are the lines, one behind the other
-pub parts-joined : (room : ℕ) (part : List ℕ) (lines : List (List ℕ)) → joined (partsFrom room part lines) ≡ part ++ joined lines
-parts-joined room part [] = refl
-parts-joined room part (line ∷ lines) = by-test (λ l. parts-joined room l lines) (ltb (length part) (room / 2))
-  where
-    by-test : ((l : List ℕ) → joined (partsFrom room l lines) ≡ l ++ joined lines) → (t : Bool)
-        → joined (cond t (partsFrom room (part ++ line) lines) (part ∷ partsFrom room line lines)) ≡ part ++ (line ++ joined lines)
-    by-test on true = on (part ++ line) ∙ append-assoc part line (joined lines)
-    by-test on false = ap (λ (l : List ℕ). part ++ l) (on line)
-
-abbrev pub EachWithin : ℕ → List (List ℕ) → Type 0
-EachWithin most [] = Unit
-EachWithin most (text ∷ texts) = (length text ≤ most) × EachWithin most texts
-
--- and none of them is cut, where no line is longer than half of the text
-pub parts-within : (room : ℕ) (part : List ℕ) (lines : List (List ℕ)) → length part ≤ room → EachWithin (room / 2) lines
-    → EachWithin room (partsFrom room part lines)
-parts-within room part [] h e = (h, tt)
-parts-within room part (line ∷ lines) h e = by-test (λ l k. parts-within room l lines k (e .1)) (ltb (length part) (room / 2)) refl
-  where
-    by-test : ((l : List ℕ) → length l ≤ room → EachWithin room (partsFrom room l lines)) → (t : Bool) → ltb (length part) (room / 2) ≡ t
-        → EachWithin room (cond t (partsFrom room (part ++ line) lines) (part ∷ partsFrom room line lines))
-    by-test on true f =
-        let used : length part < room / 2 = ltb-true _ _ f in
-        on (part ++ line) (simp length-append (omega (arith, e .0)))
-    by-test on false f = (h, on line (omega (arith, e .0)))
+use Rattle.console.specs.GatheringLaws.{joined, parts-joined, EachWithin, parts-within}
+use Rattle.trace_list.specs.ListerPartsMirror.{partsBy, wholeParts}
 
 pub told-joined : (room cycles : ℕ) (xs : List Item) (told : Told) → joined (partsBy room cycles xs told) ≡ joined (linesBy cycles xs told)
 told-joined room cycles xs (refusal number cycle) = refl

@@ -1,4 +1,4 @@
--- How the lister's lines are gathered in a text and written out in parts: the head by itself, then items until half of the text is used.
+-- The parts in which the lister's lines are written out: the head by itself, then items until half of the text is used.
 use Prim.Native.Nat.{ℕ, _*_, _/_}
 use mathlib.Core.Path.{_≡_}
 use mathlib.Core.Bool.{cond}
@@ -13,23 +13,13 @@ use Rattle.trace.specs.declared.Listing.the-variants.{Items, Refused}
 use Rattle.listing.specs.Listing.{listingFrom}
 use Rattle.index.specs.declared.Entry.{Entry}
 use Rattle.index.specs.Entry.{ofWord}
+use Rattle.index.specs.Index.{Bytes}
 use Rattle.summary.specs.Page.{pageVerdict, indexAfter}
 use Rattle.console.specs.LineWriting.{laid}
+use Rattle.console.specs.GatheringMirror.{parts}
 use Rattle.trace_list.specs.declared.asked.Asked.{Asked}
 use Rattle.trace_list.specs.declared.asked.Asked.the-variants.{Whole, From, Unclear}
 use Rattle.trace_list.specs.ListerLines.{itemLines, refusedLine, headLine, unclearLine}
-
--- where the next line goes: at the front, where half of the text was used and is written out
-abbrev pub placeIn : ℕ → ℕ → ℕ
-placeIn room at = cond (ltb at (room / 2)) at 0
-
--- the parts that are written out, of what is gathered already and the lines that follow
-abbrev pub partsFrom : ℕ → List ℕ → List (List ℕ) → List (List ℕ)
-partsFrom room part [] = part ∷ []
-partsFrom room part (line ∷ lines) = cond (ltb (length part) (room / 2)) (partsFrom room (part ++ line) lines) (part ∷ partsFrom room line lines)
-
-abbrev pub parts : ℕ → List (List ℕ) → List (List ℕ)
-parts room lines = partsFrom room [] lines
 
 -- a start that was not refused
 abbrev pub GoodStart : Listing → Type 0
@@ -79,6 +69,7 @@ shownParts room trace Unclear = unclearLine ∷ []
 -- the promise of the lister: of some trace, the bytes that reads have brought, the text is left as what is asked says
 pub record ShownMeets (asked : Asked) (before after : List ℕ) : Type 0 where
   pub trace : List ℕ
+  pub bytes : Bytes trace
   pub shown : after ≡ laid before (shownParts (length before) trace asked)
 
 -- those of a listing and of so many of the words that it left

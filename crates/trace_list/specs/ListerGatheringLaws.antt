@@ -1,4 +1,4 @@
--- Laws of the lines gathered in the text: line by line, of a whole trace and of a listing.
+-- Laws of the lister's lines gathered in the text: item by item, of a whole trace and of a listing.
 use Prim.Native.Nat.{ℕ, suc, _+_, _-_, _*_, _/_, _≤_, _<_}
 use mathlib.Core.Path.{_≡_, refl, ap, sym, _∙_}
 use mathlib.Core.Bool.{Bool, true, false, cond}
@@ -26,48 +26,9 @@ use Rattle.text.specs.Text.{written, Puts}
 use Rattle.text.specs.TextLaws.{_then_, nothing as puts-nothing}
 use Rattle.console.specs.LineWriting.{laid}
 use Rattle.trace_list.specs.ListerLines.{itemLine, itemLines, refusedLine, headLine}
-use Rattle.trace_list.specs.GatheringMirror.{GoodStart, placeIn, partsFrom, parts, partsBy, wholeParts, listedPartsBy, listedParts}
-
--- what is gathered so far: parts that were written out have led to a text, in which the last part stands from the front on
-pub record Gathering (before : List ℕ) (all : List (List ℕ)) (text : List ℕ) (at : ℕ) (more : List (List ℕ)) : Type 0 where
-  pub from : List ℕ
-  pub part : List ℕ
-  pub room : length from ≡ length before
-  pub stands : Puts from 0 part text at
-  pub goes-on : laid before (parts (length before) all) ≡ laid from (partsFrom (length before) part more)
-
-pub gathers-none : (before : List ℕ) (all : List (List ℕ)) → Gathering before all before 0 all
-gathers-none before all = record { from = before; part = []; room = refl; stands = puts-nothing before 0; goes-on = refl }
-
-pub gathers-line : {before text after : List ℕ} {all more : List (List ℕ)} {line : List ℕ} {at end : ℕ} → Gathering before all text at (line ∷ more)
-    → Puts text (placeIn (length text) at) line after end → Gathering before all after end more
-gathers-line {before} {text} {after} {all} {more} {line} {at} {end} g p = by-test (ltb (length (g .part)) (length before / 2)) refl
-  where
-    same : length text ≡ length before
-    same = ap length (g .stands .bytes) ∙ length-sets (g .from) 0 (g .part) ∙ g .room
-
-    by-test : (t : Bool) → ltb (length (g .part)) (length before / 2) ≡ t → Gathering before all after end more
-    by-test true e =
-        let used : length (g .part) < length before / 2 = ltb-true _ _ e in
-        let place = g .stands .place in
-        let here : placeIn (length text) at ≡ at = rw same (ap (λ (t : Bool). cond t at 0) (lt-ltb at (length before / 2) (omega (arith, place, g .room)))) in
-        let behind : Puts text at line after end = rw here at p in
-        record { from = g .from; part = g .part ++ line; room = g .room; stands = g .stands then behind; goes-on = g .goes-on ∙ rw e }
-    by-test false e =
-        let used : length before / 2 ≤ length (g .part) = ltb-false _ _ e in
-        let place = g .stands .place in
-        let here : placeIn (length text) at ≡ 0 = rw same (ap (λ (t : Bool). cond t at 0) (le-ltb at (length before / 2) (omega (arith, place, g .room)))) in
-        let front : Puts text 0 line after end = rw here at p in
-        record {
-          from = text;
-          part = line;
-          room = same;
-          stands = front;
-          goes-on = g .goes-on ∙ rw e (ap (λ (b : List ℕ). laid b (partsFrom (length before) line more)) (sym (g .stands .bytes)));
-        }
-
-pub gathers-all : {before text : List ℕ} {all : List (List ℕ)} {at : ℕ} → Gathering before all text at [] → text ≡ laid before (parts (length before) all)
-gathers-all g = g .stands .bytes ∙ sym (g .goes-on)
+use Rattle.console.specs.GatheringMirror.{parts}
+use Rattle.console.specs.GatheringLaws.{head-first}
+use Rattle.trace_list.specs.ListerPartsMirror.{GoodStart, partsBy, wholeParts, listedPartsBy, listedParts}
 
 two-on : (ws : List ℕ) (i : ℕ) → i + 1 < length ws → drop i ws ≡ getD ws i 0 ∷ getD ws (i + 1) 0 ∷ drop (i + 2) ws
 two-on ws i h =
@@ -111,13 +72,6 @@ module _ (trace : List ℕ) (cursor : Cursor) (good : GoodStart (cursor .start))
   pub item-first : (x : Item) → stepOf trace cursor .handed ≡ oneItem x
       → itemLines (words (rest trace cursor)) ≡ itemLine (x .cycle * 16 + x .code) (x .value) ∷ itemLines (words (rest trace (stepOf trace cursor .cursor)))
   item-first x e = rw (rw e at (unrolls .0))
-
--- the head by itself, and then the lines
-head-first : (before head : List ℕ) {middle : List ℕ} → middle ≡ written before 0 head → (lines : List (List ℕ))
-    → laid middle (parts (length middle) lines) ≡ laid before (head ∷ parts (length before) lines)
-head-first before head {middle} f lines =
-    let same : length middle ≡ length before = ap length f ∙ length-sets before 0 head in
-    rw (same, f)
 
 -- a whole trace, as its start was judged
 module _ (trace before : List ℕ) (start : Listing) (judged : toldListing start ≡ reading trace) where
