@@ -1,2 +1,5 @@
 pub mod Visiting
 pub mod VisitingLaws
+pub mod Gateway
+pub mod GatewayMirror
+pub mod GatewayLaws

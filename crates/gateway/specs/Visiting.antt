@@ -1,11 +1,13 @@
--- The desk's language, `gateway`: what the lines that come in do to the visit and its notes.
+-- The desk's language, `gateway`: what the lines that come in do to the visit and its notes, and which packets follow them.
 use Prim.Native.Nat.{ℕ}
 use mathlib.Core.Path.{_≡_}
 use mathlib.Core.Bool.{cond}
-use mathlib.Core.List.{List, [], _∷_}
-use Rattle.console.specs.InputLines.{linesOf}
+use mathlib.Core.List.{List, [], _∷_, _++_}
+use Rattle.console.specs.InputLines.{linesServed}
+use Rattle.console.specs.LineWriting.{laid}
 use Rattle.visit.specs.declared.Visit.{Visit}
 use Rattle.visit.specs.Visit.{heard, noted, lost, isOver}
+use Rattle.visit_lines.specs.VisitLines.{packetLine}
 use Rattle.reply_lines.specs.declared.ReplyLine.{ReplyLine}
 use Rattle.reply_lines.specs.declared.ReplyLine.the-variants.{Nothing, Reply, NoReply}
 use Rattle.reply_lines.specs.ReplyLines.{replyLine}
@@ -31,7 +33,24 @@ abbrev pub course : List (List ℕ) → Standing → Standing
 course [] s = standing (lost (s .visit)) (s .notes)
 course (line ∷ lines) s = cond (isOver (s .visit .stage)) s (course lines (afterLine line s))
 
--- the promise of a visit held over standard input: it and its notes are what the lines of some input, the bytes that reads have brought, make of them
-pub record VisitMeets (v : Visit) (before : List ℕ) (r : Visit) (after : List ℕ) : Type 0 where
-  pub input : List ℕ
-  pub whole : standing r after ≡ course (linesOf input) (standing v before)
+-- "each after the answer to the one before has come in": the packet that follows a reply
+abbrev pub followed : ReplyLine → Visit → List (List ℕ)
+followed Nothing v = []
+followed (Reply word) v = packetLine (heard v word)
+followed NoReply v = []
+
+abbrev pub packetLines : List (List ℕ) → Standing → List (List ℕ)
+packetLines [] s = []
+packetLines (line ∷ lines) s = cond (isOver (s .visit .stage)) [] (followed (replyLine line) (s .visit) ++ packetLines lines (afterLine line s))
+
+-- the promise of a line: the visit, its notes, and the packet that follows at the front of the text
+pub record LineMeets (line : List ℕ) (v : Visit) (before buffer : List ℕ) (r : Visit) (after text : List ℕ) : Type 0 where
+  pub leaves : standing r after ≡ afterLine line (standing v before)
+  pub said : text ≡ laid buffer (followed (replyLine line) v)
+
+-- the promise of a visit held over standard input: it and its notes are what the lines of what was unread and of some bytes, which reads have brought, make
+-- of them, and the packets that follow them were put at the front of the text in their order
+pub record VisitMeets (unread : List ℕ) (v : Visit) (before buffer : List ℕ) (r : Visit) (after text : List ℕ) : Type 0 where
+  pub brought : List ℕ
+  pub leaves : standing r after ≡ course (linesServed unread brought) (standing v before)
+  pub said : text ≡ laid buffer (packetLines (linesServed unread brought) (standing v before))

@@ -1,9 +1,9 @@
 -- Laws of a visit held over standard input: what is held of a line serves as the line, lines are those of an input, and the visit is over at the end.
-use Prim.Native.Nat.{ℕ, _<_}
+use Prim.Native.Nat.{ℕ, _-_, _≤_, _<_}
 use native.Mathlib.Omega.{arith}
 use mathlib.Core.Path.{_≡_, refl, ap, sym, _∙_}
 use mathlib.Core.Bool.{true, false}
-use mathlib.Core.List.{List, [], _∷_, _++_, append-assoc}
+use mathlib.Core.List.{List, [], _∷_, _++_, append-nil}
 use lib.ListN.{length, take}
 use Rattle.laws.specs.TestLaws.{by-test}
 use Rattle.words.specs.declared.LineKind.{LineKind}
@@ -11,17 +11,20 @@ use Rattle.words.specs.declared.LineKind.the-variants.{Silent, Clear, TooLong}
 use Rattle.words.specs.LineWords.{kindOf}
 use Rattle.words.specs.LineWordLaws.{clear-short}
 use Rattle.console.specs.declared.Input.the-variants.{Line, Last}
-use Rattle.console.specs.InputLines.{linesOf, firstLine}
-use Rattle.console.specs.InputLineLaws.{lines-end, open-line, throughEnd, through-end}
+use Rattle.console.specs.InputLines.{firstLine}
+use Rattle.console.specs.InputLineLaws.{open-line}
 use Rattle.console.specs.Holding.{heldOf}
 use Rattle.console.specs.HoldingLaws.{held-all, kind-held}
-use Rattle.console.specs.LineReading.{NextMeets}
+use Rattle.console.specs.LineReading.{NextMeets, allBrought}
+use Rattle.console.specs.LinesServedLaws.{Comes, Ends, line-served, last-served, none-served, over-served}
+use Rattle.console.specs.LineWriting.{laid}
+use Rattle.console.specs.LineWritingLaws.{laid-on}
 use Rattle.visit.specs.declared.Visit.{Visit}
 use Rattle.visit.specs.Visit.{lost, isOver}
 use Rattle.visit.specs.VisitLaws.{over-is-not-lost}
 use Rattle.reply_lines.specs.declared.ReplyLine.the-variants.{Nothing, NoReply}
 use Rattle.reply_lines.specs.ReplyLines.{replyLine}
-use Rattle.gateway.specs.Visiting.{Standing, standing, answered, afterLine, course, VisitMeets}
+use Rattle.gateway.specs.Visiting.{Standing, standing, answered, afterLine, course, followed, packetLines, LineMeets, VisitMeets}
 
 -- ---- whether a visit is over
 -- one that has lost its reply is
@@ -51,51 +54,60 @@ held-line room line some = by-kind (kindOf line) refl
     by-kind Silent e = silent-line (heldOf room line) (kind-held room line some ∙ e) ∙ sym (silent-line line e)
     by-kind TooLong e = long-line (heldOf room line) (kind-held room line some ∙ e) ∙ sym (long-line line e)
 
-empty-line : (s : Standing) → afterLine [] s ≡ s
-unfolding replyLine kindOf
-empty-line s = refl
+-- ---- lines served one after the other
+-- what lines make of the visit, and the text in which the packets that follow them were put
+abbrev pub Outcome : Type 0
+Outcome = Standing × List ℕ
 
--- ---- lines of an input
--- the lines of some input have led from one standing to another, whatever comes yet
-abbrev pub Came : Standing → Standing → Type 0
-Came from to = (input : List ℕ) × ((rest : List ℕ) → course (linesOf (input ++ rest)) from ≡ course (linesOf rest) to)
+abbrev pub outcome : Standing → List ℕ → List (List ℕ) → Outcome
+outcome s text lines = (course lines s, laid text (packetLines lines s))
 
-pub comes-to-begin : (s : Standing) → Came s s
-comes-to-begin s = ([], λ rest. refl)
+abbrev pub Came : List ℕ → Standing → List ℕ → ℕ → List ℕ → Standing → List ℕ → Type 0
+Came start from buffer left unread s text = Comes (outcome from buffer) start (outcome s text) left unread
 
--- it has ended: nothing more comes
-ends-empty : (s : Standing) → course (linesOf []) s ≡ standing (lost (s .visit)) (s .notes)
-ends-empty s =
-    by-test (isOver (s .visit .stage)) (λ t. rw (t, over-is-not-lost (s .visit) t)) (λ t. rw (t, empty-line s))
+-- no line does anything to a visit that is over
+over-stays : (s : Standing) (text : List ℕ) → isOver (s .visit .stage) ≡ true → (lines : List (List ℕ)) → outcome s text lines ≡ (s, text)
+over-stays s text t [] = rw (over-is-not-lost (s .visit) t)
+over-stays s text t (line ∷ lines) = rw t
 
-module _ (from s : Standing) (c : Came from s) where
-  pub none-comes : (r : Visit) (after : List ℕ) → r ≡ lost (s .visit) → after ≡ s .notes → VisitMeets (from .visit) (from .notes) r after
-  none-comes r after p q = record { input = c .0 ++ []; whole = rw (p, q) (sym (c .1 [] ∙ ends-empty s)) }
+module _ (start : List ℕ) (from : Standing) (buffer : List ℕ) where
+  ends-visit : (r : Visit) (after text : List ℕ) → Ends (outcome from buffer) start (standing r after, text)
+      → VisitMeets start (from .visit) (from .notes) buffer r after text
+  ends-visit r after text e =
+      record { brought = e .0; leaves = sym (ap (λ (o : Outcome). o .0) (e .1)); said = sym (ap (λ (o : Outcome). o .1) (e .1)) }
 
-  pub over-comes : isOver (s .visit .stage) ≡ true → VisitMeets (from .visit) (from .notes) (s .visit) (s .notes)
-  over-comes t = none-comes (s .visit) (s .notes) (sym (over-is-not-lost (s .visit) t)) refl
+  module _ {left : ℕ} {unread text : List ℕ} (s : Standing) (c : Came start from buffer left unread s text) where
+    pub none-comes : left ≤ 0 → (r : Visit) → r ≡ lost (s .visit) → VisitMeets start (from .visit) (from .notes) buffer r (s .notes) text
+    none-comes none r e = rw e (ends-visit (lost (s .visit)) (s .notes) text (none-served c none))
 
-  module _ (goes-on : isOver (s .visit .stage) ≡ false) {unread left buffer : List ℕ} {held : ℕ} (some : 4096 < length buffer) where
-    pub line-comes : (to : Standing) → NextMeets unread (Line held) left buffer → to ≡ afterLine (take held buffer) s → Came from to
-    line-comes to n p =
-        let all = unread ++ n .brought in
-        let line = firstLine all in
-        let same : to ≡ afterLine line s = p ∙ ap (λ r. answered r s) (ap replyLine (n .line) ∙ held-line (length buffer) line some) in (
-          c .0 ++ throughEnd all,
-          λ rest. ap (λ (bytes : List ℕ). course (linesOf bytes) from) (append-assoc (c .0) (throughEnd all) rest)
-              ∙ c .1 (throughEnd all ++ rest)
-              ∙ ap (λ (ls : List (List ℕ)). course ls s) (through-end all rest (n .ended))
-              ∙ rw (goes-on, same),
-        )
+    pub over-comes : isOver (s .visit .stage) ≡ true → VisitMeets start (from .visit) (from .notes) buffer (s .visit) (s .notes) text
+    over-comes t = ends-visit (s .visit) (s .notes) text (over-served c (s, text) (over-stays s text t))
 
-    pub last-comes : (to : Standing) (r : Visit) (after : List ℕ) → NextMeets unread (Last held) left buffer → to ≡ afterLine (take held buffer) s
-        → r ≡ lost (to .visit) → after ≡ to .notes → VisitMeets (from .visit) (from .notes) r after
-    last-comes to r after n p q e =
-        let all = unread ++ n .brought in
-        let line = open-line all (n .ended) .0 in
-        let same : to ≡ afterLine all s =
-        p ∙ ap (λ x. answered x s) (ap replyLine (n .line ∙ ap (heldOf (length buffer)) line) ∙ held-line (length buffer) all some) in
-        record {
-          input = c .0 ++ all;
-          whole = rw (q, e, same) (sym (c .1 all ∙ ap (λ (ls : List (List ℕ)). course ls s) (lines-end all (n .ended)) ∙ rw goes-on));
-        }
+    module _ (goes-on : isOver (s .visit .stage) ≡ false) (more : 0 < left) {held : ℕ} {was line behind after spoken : List ℕ} {r : Visit}
+        (some : 4096 < length line) (m : LineMeets (take held line) (s .visit) (s .notes) text r after spoken) where
+      pub line-comes : NextMeets unread was (Line held) behind line → Came start from buffer (left - 1) behind (standing r after) spoken
+      line-comes n =
+          let first = firstLine (unread ++ allBrought (n .reads)) in
+          let same : replyLine (take held line) ≡ replyLine first = ap replyLine (n .line) ∙ held-line (length line) first some in
+          let leaves : standing r after ≡ afterLine first s = m .leaves ∙ ap (λ x. answered x s) same in
+          let said : spoken ≡ laid text (followed (replyLine first) (s .visit)) = m .said ∙ ap (λ x. laid text (followed x (s .visit))) same in
+          line-served c more n (outcome (standing r after) spoken)
+          (λ lines.
+          rw (goes-on, leaves, said)
+          (ap (λ (l : List ℕ). (course lines (afterLine first s), l))
+          (laid-on text (followed (replyLine first) (s .visit)) (packetLines lines (afterLine first s)))))
+
+      pub last-comes : NextMeets unread was (Last held) behind line → (over : Visit) → over ≡ lost r
+          → VisitMeets start (from .visit) (from .notes) buffer over after spoken
+      last-comes n over e =
+          let all = unread ++ allBrought (n .reads) in
+          let whole = open-line all (n .ended) .0 in
+          let same : replyLine (take held line) ≡ replyLine all =
+          ap replyLine (n .line ∙ ap (heldOf (length line)) whole) ∙ held-line (length line) all some in
+          let leaves : standing r after ≡ afterLine all s = m .leaves ∙ ap (λ x. answered x s) same in
+          let said : spoken ≡ laid text (followed (replyLine all) (s .visit)) = m .said ∙ ap (λ x. laid text (followed x (s .visit))) same in
+          let lose : standing over after ≡ standing (lost (afterLine all s .visit)) (afterLine all s .notes) =
+          rw e (ap (λ (x : Standing). standing (lost (x .visit)) (x .notes)) leaves) in
+          ends-visit over after spoken
+          (last-served c more n (standing over after, spoken)
+          (rw (goes-on, append-nil (followed (replyLine all) (s .visit))) (rw (lose, said))))

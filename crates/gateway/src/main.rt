@@ -3,7 +3,17 @@
 ghost use Prim.Native.Nat.{_≤_, _<_};
 ghost use mathlib.Core.Path.{_≡_};
 ghost use lib.ListN.{length, take};
-ghost use Rattle.gateway.specs.Visiting.{afterLine, standing, VisitMeets};
+ghost use Rattle.text.specs.Text.{Puts, written};
+ghost use Rattle.console.specs.LineReading.{unreadOf};
+ghost use Rattle.console.specs.LineWriting.{laid};
+ghost use Rattle.console.specs.GatheringMirror.{placeIn};
+ghost use Rattle.visit.specs.HandedOver.{handedOver};
+ghost use Rattle.visit_lines.specs.VisitLines.{packetLine, readLine};
+ghost use Rattle.visit_lines.specs.VisitPartsMirror.{endParts, readParts};
+ghost use Rattle.reply_lines.specs.declared.TableAsked.the-variants.{Table};
+ghost use Rattle.gateway.specs.Visiting.{LineMeets, VisitMeets};
+ghost use Rattle.gateway.specs.Gateway.{AskedMeets, unclearLine};
+ghost use Rattle.gateway.specs.GatewayMirror.{GatewayMeets, HeldMeets, ResultMeets};
 use console::Input;
 use console::Unread;
 use libc::STDERR_FILENO;
@@ -15,17 +25,23 @@ use visit::Started;
 use visit::Visit;
 
 // The packet that the visit sends now, if it is not over.
-fn send(visit: Visit, text: &mut [u8]) {
+fn send(visit: Visit, text: &mut [u8])
+    ensures { λ _. ⌜ now (text .exit) ≡ laid (now (text .entry)) (packetLine visit) ⌝ }
+{
     let next = visit::next_packet(visit);
-    if let Next::Send(word) = next {
-        let end = visit_text::put_packet(text, word);
-        console::say(text, end);
+    match next {
+        Next::Send(word) => {
+            let end = visit_text::put_packet(text, word);
+            console::say(text, end);
+        }
+        Next::EndsAsRead => {}
+        Next::EndsNotRead(_, _) => {}
     }
 }
 
 // An empty line and a comment are no answers, and no packet follows them.
 fn take_line(visit: Visit, line: &[u8], notes: &mut [u64], text: &mut [u8]) -> Visit
-    ensures { λ r. ⌜ standing r (now (notes .exit)) ≡ afterLine (now (line .entry)) (standing visit (now (notes .entry))) ⌝ }
+    ensures { λ r. ⌜ LineMeets (now (line .entry)) visit (now (notes .entry)) (now (text .entry)) r (now (notes .exit)) (now (text .exit)) ⌝ }
 {
     match reply_lines::read_line(line) {
         ReplyLine::Nothing => visit,
@@ -40,25 +56,26 @@ fn take_line(visit: Visit, line: &[u8], notes: &mut [u64], text: &mut [u8]) -> V
 
 fn take_front(visit: Visit, line: &[u8], held: usize, notes: &mut [u64], text: &mut [u8]) -> Visit
     requires { ⌜ held ≤ length (now line) ⌝ }
-    ensures { λ r. ⌜ standing r (now (notes .exit)) ≡ afterLine (take held (now (line .entry))) (standing visit (now (notes .entry))) ⌝ }
+    ensures { λ r. ⌜ LineMeets (take held (now (line .entry))) visit (now (notes .entry)) (now (text .entry)) r (now (notes .exit)) (now (text .exit)) ⌝ }
 {
     take_line(visit, &line[..held], notes, text)
 }
 
-// Line after line, until the visit is over. The budget of lines is never used up.
-fn hold_visit(
+// Line after line from what is unread of the source on, until the visit is over. The budget of lines is never used up.
+fn take_lines(
     start: Visit,
+    first: Unread,
     notes: &mut [u64],
     source: &mut [u8],
     line: &mut [u8],
     text: &mut [u8],
 ) -> Visit
     requires { ⌜ 4096 < length (now line) ⌝ }
-    ensures { λ r. ⌜ VisitMeets start (now (notes .entry)) r (now (notes .exit)) ⌝ }
+    ensures { λ r. ⌜ VisitMeets (unreadOf (now (source .entry)) (first .at) (first .end)) start (now (notes .entry)) (now (text .entry))
+        r (now (notes .exit)) (now (text .exit)) ⌝ }
 {
-    send(start, text);
     let mut visit = start;
-    let mut unread = Unread { at: 0, end: 0 };
+    let mut unread = first;
     let mut budget: u64 = 0xFFFFFFFFFFFFFFFF;
     while 0 < budget {
         budget -= 1;
@@ -82,45 +99,45 @@ fn hold_visit(
     visit::lose(visit)
 }
 
-// Writes the text up to a place to standard error.
-fn tell(text: &[u8], end: usize) {
-    if end <= text.len() {
-        io::write_all(STDERR_FILENO, &text[..end]);
-    }
-}
-
-// Writes the text out where half of it is used; the place where the next line goes.
-fn make_room(text: &[u8], at: usize) -> usize {
-    if at < text.len() / 2 {
-        return at;
-    }
-    tell(text, at);
-    0
-}
-
-fn add_result(visit: Visit, notes: &[u64], j: u32, text: &mut [u8], at: usize) -> usize {
+fn add_result(visit: Visit, notes: &[u64], j: u32, text: &mut [u8], at: usize) -> usize
+    ensures { λ r. ⌜ ResultMeets (visit .address) j (handedOver visit (now (notes .entry)) j) (now (text .entry)) at (now (text .exit)) r ⌝ }
+{
     let handed = visit::hand_over(visit, notes, j);
-    let Handed::Given(outcome) = handed else {
-        return at;
-    };
-    let from = make_room(text, at);
-    visit_text::put_result(text, from, visit.address, j, outcome)
+    match handed {
+        Handed::Given(outcome) => {
+            let from = console::make_room(STDERR_FILENO, text, at);
+            visit_text::put_result(text, from, visit.address, j, outcome)
+        }
+        Handed::Nothing => at,
+    }
+}
+
+fn add_read(visit: Visit, text: &mut [u8], at: usize) -> usize
+    ensures { λ r. ⌜ Puts (now (text .entry)) (placeIn (length (now (text .entry))) at) (readLine visit) (now (text .exit)) r ⌝ }
+{
+    let from = console::make_room(STDERR_FILENO, text, at);
+    let end = visit_text::put_read(text, from, visit.packets);
+    text::put_byte(text, end, b'\n')
 }
 
 // What was read, and how many packets it took.
-fn tell_results(visit: Visit, notes: &[u64], text: &mut [u8]) {
+fn tell_results(visit: Visit, notes: &[u64], text: &mut [u8])
+    ensures { λ _. ⌜ now (text .exit) ≡ laid (now (text .entry)) (readParts (length (now (text .entry))) visit (now (notes .entry))) ⌝ }
+{
     let mut at = 0usize;
     let mut j = 0u32;
     while j < visit.ends {
         at = add_result(visit, notes, j, text, at);
         j += 1;
     }
-    let end = visit_text::put_read(text, at, visit.packets);
-    let end = text::put_byte(text, end, b'\n');
-    tell(text, end);
+    let end = add_read(visit, text, at);
+    console::write_to(STDERR_FILENO, text, end);
 }
 
-fn tell_end(visit: Visit, notes: &[u64], text: &mut [u8]) {
+// What the visit came to.
+fn tell_end(visit: Visit, notes: &[u64], text: &mut [u8])
+    ensures { λ _. ⌜ now (text .exit) ≡ laid (now (text .entry)) (endParts (length (now (text .entry))) visit (now (notes .entry))) ⌝ }
+{
     let next = visit::next_packet(visit);
     match next {
         // A visit that is over sends no packet.
@@ -129,19 +146,23 @@ fn tell_end(visit: Visit, notes: &[u64], text: &mut [u8]) {
         Next::EndsNotRead(packet, reason) => {
             let end = visit_text::put_not_read(text, packet, reason);
             let end = text::put_byte(text, end, b'\n');
-            tell(text, end);
+            console::write_to(STDERR_FILENO, text, end);
         }
     }
 }
 
-fn tell_unclear(text: &mut [u8]) {
+fn tell_unclear(text: &mut [u8])
+    ensures { λ _. ⌜ now (text .exit) ≡ written (now (text .entry)) 0 unclearLine ⌝ }
+{
     let end = refusal_text::put_unclear(text);
     let end = text::put_byte(text, end, b'\n');
-    tell(text, end);
+    console::write_to(STDERR_FILENO, text, end);
 }
 
 // What the words behind the program's name ask; none is no table. No word is longer than Linux lets one be, 131,071 bytes.
-fn read_asked() -> TableAsked {
+fn read_asked() -> TableAsked
+    ensures { λ r. ⌜ AskedMeets r ⌝ }
+{
     let count = os::arg_count();
     if count < 2 {
         return TableAsked::Table(0, 0);
@@ -156,24 +177,39 @@ fn read_asked() -> TableAsked {
     reply_lines::read_table(&address[..address_end], &longwords[..longwords_end])
 }
 
-fn visit_gateway(address: u32, longwords: u32, text: &mut [u8]) {
+// A visit from its first packet to its end.
+fn hold_visit(start: Visit, notes: &mut [u64], text: &mut [u8])
+    ensures { λ _. ⌜ HeldMeets start (now (notes .entry)) (now (text .entry)) (now (text .exit)) ⌝ }
+{
+    let mut source = [0u8; 65536];
+    let mut line = [0u8; 4097];
+    let nothing = Unread { at: 0, end: 0 };
+    send(start, text);
+    let over = take_lines(start, nothing, notes, &mut source, &mut line, text);
+    tell_end(over, notes, text);
+}
+
+fn visit_gateway(address: u32, longwords: u32, text: &mut [u8])
+    ensures { λ _. ⌜ GatewayMeets (Table address longwords) (now (text .entry)) (now (text .exit)) ⌝ }
+{
     let mut notes = [0u64; 65563];
     let started = visit::start(address, longwords, &notes);
     match started {
         Started::Refused(_) => tell_unclear(text),
-        Started::Begun(start) => {
-            let mut source = [0u8; 65536];
-            let mut line = [0u8; 4097];
-            let over = hold_visit(start, &mut notes, &mut source, &mut line, text);
-            tell_end(over, &notes, text);
-        }
+        Started::Begun(start) => hold_visit(start, &mut notes, text),
+    }
+}
+
+fn answer(asked: TableAsked, text: &mut [u8])
+    ensures { λ _. ⌜ GatewayMeets asked (now (text .entry)) (now (text .exit)) ⌝ }
+{
+    match asked {
+        TableAsked::Unclear => tell_unclear(text),
+        TableAsked::Table(address, longwords) => visit_gateway(address, longwords, text),
     }
 }
 
 fn main() {
     let mut text = [0u8; 65536];
-    match read_asked() {
-        TableAsked::Unclear => tell_unclear(&mut text),
-        TableAsked::Table(address, longwords) => visit_gateway(address, longwords, &mut text),
-    }
+    answer(read_asked(), &mut text);
 }

@@ -1,182 +1,42 @@
-use lib.ListN.{length}
-use mathlib.Core.Path.{_≡_, refl, sym, _∙_}
-use native.Mathlib.Omega.{arith}
-use Rattle.gateway.specs.Visiting.{standing}
-use Rattle.gateway.specs.VisitingLaws.{Came, comes-to-begin, over-comes, line-comes, last-comes, none-comes}
+use Rattle.gateway.specs.GatewayLaws.{held-visit}
 use borrow.Author.Needs.{needs}
 use Rattle.gateway.proofs.hold_visit.Statement.{statement}
 use Rattle.gateway.proofs.hold_visit.Tie as tie
 
-abbrev Inv-loop : tie.InvT-loop
-Inv-loop notes₀ source₀ line₀ text₀ visit₀ unread₀ budget₀ notes source line text visit unread budget =
-    (length notes ≡ length notes₀) × (length source ≡ length source₀) × (length line ≡ length line₀) × (length text ≡ length text₀)
-    × Came (standing visit₀ notes₀) (standing visit notes)
-
-abbrev μ-loop : tie.MeasureT-loop
-μ-loop notes₀ source₀ line₀ text₀ visit₀ unread₀ budget₀ notes source line text visit unread budget = budget
-
-send-requires : tie.Need-send-requires Inv-loop μ-loop
+send-requires : tie.Need-send-requires
 send-requires c κs = search needs
 
-loop-holds : tie.Need-loop-holds Inv-loop μ-loop
-loop-holds c = (refl, refl, refl, refl, comes-to-begin (standing (c .before .before .before .before .before .before .before .before .args .start) (c .before .before .before .before .before .before .before .before .args .notes .now)))
+slice-aggregate-take-lines : tie.Need-slice-aggregate-take-lines
+slice-aggregate-take-lines c = search needs
 
-sub-budget : tie.Need-sub-budget Inv-loop μ-loop
-sub-budget c = search needs
+slice-aggregate-take-lines-2 : tie.Need-slice-aggregate-take-lines-2
+slice-aggregate-take-lines-2 c = search needs
 
-is-over-requires : tie.Need-is-over-requires Inv-loop μ-loop
-is-over-requires c κs = search needs
+take-lines-requires : tie.Need-take-lines-requires
+take-lines-requires c κs = search needs
 
-same-length : tie.Need-same-length Inv-loop μ-loop
+tell-end-requires : tie.Need-tell-end-requires
+tell-end-requires c κs = search needs
+
+same-length : tie.Need-same-length
 same-length c = search needs
 
-same-length-2 : tie.Need-same-length-2 Inv-loop μ-loop
+same-length-2 : tie.Need-same-length-2
 same-length-2 c = search needs
 
-same-length-3 : tie.Need-same-length-3 Inv-loop μ-loop
-same-length-3 c = search needs
-
-same-length-4 : tie.Need-same-length-4 Inv-loop μ-loop
-same-length-4 c = search needs
-
-returns : tie.Need-returns Inv-loop μ-loop
-returns c = over-comes (standing (c .before .before .before .before .before .before .before .before .before .before .before .before .args .start)
-    (c .before .before .before .before .before .before .before .before .before .before .before .before .args .notes .now)) (standing (c .before .before .before .loop .visit) (c .before .before .before .loop .notes))
-    (c .before .before .before .loop .inv .4) (sym (c .before .is-over .ensures) ∙ c .if1 .taken)
-
-next-line-requires : tie.Need-next-line-requires Inv-loop μ-loop
-next-line-requires c κs = search needs
-
-enum-known-input : tie.Need-enum-known-input Inv-loop μ-loop
-enum-known-input c = search needs
-
-take-front-requires : tie.Need-take-front-requires Inv-loop μ-loop
-take-front-requires c κs = (rw (c .before .before .before .before .input .given .1) at (c .before .before .before .before .before .before .before .before .before .before .before .next-line .ensures)) .within
-
-loop-less : tie.Need-loop-less Inv-loop μ-loop
-loop-less c = omega (arith, c .before .before .before .before .before .before .before .before .before .before .before .before .before .before .before .before .before .before .before .before .before .loop-test .taken)
-
-loop-again : tie.Need-loop-again Inv-loop μ-loop
-loop-again c = (
-  c .before .before .before .before .take-front .kept .1 .1 .1 .0 ∙ c .before .before .before .before .before .before .before .before .before .before .before .before .before .before .before .before .before .before .before .before .before .before .loop .inv .0,
-  c .before .before .before .before .before .before .before .before .before .before .before .before .before .before .before .before .next-line .kept .0 ∙
-      c .before .before .before .before .before .before .before .before .before .before .before .before .before .before .before .before .before .before .before .before .before .before .loop .inv .1,
-  c .before .before .before .before .before .before .before .before .before .before .before .before .before .before .before .before .next-line .kept .1 .1 .0 ∙
-      c .before .before .before .before .before .before .before .before .before .before .before .before .before .before .before .before .before .before .before .before .before .before .loop .inv .2,
-  c .before .before .before .before .take-front .kept .1 .1 .1 .1 .0 ∙ c .before .before .before .before .before .before .before .before .before .before .before .before .before .before .before .before .before .before .before .before .before .before .loop .inv .3,
-  line-comes (standing
-      (c .before .before .before .before .before .before .before .before .before .before .before .before .before .before .before .before .before .before .before .before .before .before .before .before .before .before .before .before .before .before .before .args .start)
-      (c .before .before .before .before .before .before .before .before .before .before .before .before .before .before .before .before .before .before .before .before .before .before .before .before .before .before .before .before .before .before .before .args .notes .now)) (standing
-      (c .before .before .before .before .before .before .before .before .before .before .before .before .before .before .before .before .before .before .before .before .before .before .loop .visit)
-      (c .before .before .before .before .before .before .before .before .before .before .before .before .before .before .before .before .before .before .before .before .before .before .loop .notes))
-      (c .before .before .before .before .before .before .before .before .before .before .before .before .before .before .before .before .before .before .before .before .before .before .loop .inv .4)
-      (sym (c .before .before .before .before .before .before .before .before .before .before .before .before .before .before .before .before .before .before .before .before .is-over .ensures) ∙
-      c .before .before .before .before .before .before .before .before .before .before .before .before .before .before .before .before .before .before .before .if1 .left)
-      (omega (
-        arith,
-        c .before .before .before .before .before .before .before .before .before .before .before .before .before .before .before .before .before .before .before .before .before .before .before .before .before .before .before .before .before .before .before .pre,
-        c .before .before .before .before .before .before .before .before .before .before .before .before .before .before .before .before .before .before .before .before .before .before .loop .inv .2,
-        c .before .before .before .before .before .before .before .before .before .before .before .before .before .before .before .before .next-line .kept .1 .1 .0,
-      )) _
-      (rw (c .before .before .before .before .before .before .before .before .before .input .given .1) at
-      (c .before .before .before .before .before .before .before .before .before .before .before .before .before .before .before .before .next-line .ensures)) (c .before .before .before .before .take-front .ensures),
-)
-
-enum-known-input-2 : tie.Need-enum-known-input-2 Inv-loop μ-loop
-enum-known-input-2 c = search needs
-
-take-front-requires-2 : tie.Need-take-front-requires-2 Inv-loop μ-loop
-take-front-requires-2 c κs = (rw (c .before .before .before .before .input2 .given .1) at (c .before .before .before .before .before .before .before .before .before .before .before .next-line .ensures)) .within
-
-lose-requires : tie.Need-lose-requires Inv-loop μ-loop
-lose-requires c κs = search needs
-
-same-length-5 : tie.Need-same-length-5 Inv-loop μ-loop
-same-length-5 c = c .before .before .before .before .before .take-front2 .kept .1 .1 .1 .0 ∙
-    c .before .before .before .before .before .before .before .before .before .before .before .before .before .before .before .before .before .before .before .before .before .before .before .loop .inv .0
-
-same-length-6 : tie.Need-same-length-6 Inv-loop μ-loop
-same-length-6 c = c .before .before .before .before .before .before .before .before .before .before .before .before .before .before .before .before .before .next-line .kept .0 ∙
-    c .before .before .before .before .before .before .before .before .before .before .before .before .before .before .before .before .before .before .before .before .before .before .before .loop .inv .1
-
-same-length-7 : tie.Need-same-length-7 Inv-loop μ-loop
-same-length-7 c = c .before .before .before .before .before .before .before .before .before .before .before .before .before .before .before .before .before .next-line .kept .1 .1 .0 ∙
-    c .before .before .before .before .before .before .before .before .before .before .before .before .before .before .before .before .before .before .before .before .before .before .before .loop .inv .2
-
-same-length-8 : tie.Need-same-length-8 Inv-loop μ-loop
-same-length-8 c = c .before .before .before .before .before .take-front2 .kept .1 .1 .1 .1 .0 ∙
-    c .before .before .before .before .before .before .before .before .before .before .before .before .before .before .before .before .before .before .before .before .before .before .before .loop .inv .3 ∙
-    c .before .before .before .before .before .before .before .before .before .before .before .before .before .before .before .before .before .before .before .before .before .before .before .before .before .before .send .kept .1 .0
-
-returns-2 : tie.Need-returns-2 Inv-loop μ-loop
-returns-2 c =
-    last-comes (standing
-    (c .before .before .before .before .before .before .before .before .before .before .before .before .before .before .before .before .before .before .before .before .before .before .before .before .before .before .before .before .before .before .before .before .args .start)
-    (c .before .before .before .before .before .before .before .before .before .before .before .before .before .before .before .before .before .before .before .before .before .before .before .before .before .before .before .before .before .before .before .before .args .notes .now)) (standing
-    (c .before .before .before .before .before .before .before .before .before .before .before .before .before .before .before .before .before .before .before .before .before .before .before .loop .visit)
-    (c .before .before .before .before .before .before .before .before .before .before .before .before .before .before .before .before .before .before .before .before .before .before .before .loop .notes))
-    (c .before .before .before .before .before .before .before .before .before .before .before .before .before .before .before .before .before .before .before .before .before .before .before .loop .inv .4)
-    (sym (c .before .before .before .before .before .before .before .before .before .before .before .before .before .before .before .before .before .before .before .before .before .is-over .ensures) ∙
-    c .before .before .before .before .before .before .before .before .before .before .before .before .before .before .before .before .before .before .before .before .if1 .left)
-    (omega (
-      arith,
-      c .before .before .before .before .before .before .before .before .before .before .before .before .before .before .before .before .before .before .before .before .before .before .before .before .before .before .before .before .before .before .before .before .pre,
-      c .before .before .before .before .before .before .before .before .before .before .before .before .before .before .before .before .before .before .before .before .before .before .before .loop .inv .2,
-      c .before .before .before .before .before .before .before .before .before .before .before .before .before .before .before .before .before .next-line .kept .1 .1 .0,
-    )) _ _ _
-    (rw (c .before .before .before .before .before .before .before .before .before .before .input2 .given .1) at
-    (c .before .before .before .before .before .before .before .before .before .before .before .before .before .before .before .before .before .next-line .ensures)) (c .before .before .before .before .before .take-front2 .ensures) (c .lose .ensures) refl
-
-lose-requires-2 : tie.Need-lose-requires-2 Inv-loop μ-loop
-lose-requires-2 c κs = search needs
-
-same-length-9 : tie.Need-same-length-9 Inv-loop μ-loop
-same-length-9 c = search needs
-
-same-length-10 : tie.Need-same-length-10 Inv-loop μ-loop
-same-length-10 c = search needs
-
-same-length-11 : tie.Need-same-length-11 Inv-loop μ-loop
-same-length-11 c = search needs
-
-same-length-12 : tie.Need-same-length-12 Inv-loop μ-loop
-same-length-12 c = search needs
-
-returns-3 : tie.Need-returns-3 Inv-loop μ-loop
-returns-3 c = none-comes (standing (c .before .before .before .before .before .before .before .before .before .before .before .args .start)
-    (c .before .before .before .before .before .before .before .before .before .before .before .args .notes .now)) (standing (c .before .before .loop .visit) (c .before .before .loop .notes)) (c .before .before .loop .inv .4) _ _ (c .lose2 .ensures) refl
+returns : tie.Need-returns
+returns c = held-visit (c .before .before .before .before .before .before .before .before .before .before .before .before .before .before .before .before .before .before .send .ensures)
+    (c .before .before .before .before .before .before .before .before .before .before .before .take-lines .ensures) (c .before .before .tell-end .ensures)
 
 pub hold-visit-spec : {M : Type 1} → statement M
 hold-visit-spec =
     tie.close
     (tie.spec
-    Inv-loop
-    μ-loop
     send-requires
-    loop-holds
-    sub-budget
-    is-over-requires
+    slice-aggregate-take-lines
+    slice-aggregate-take-lines-2
+    take-lines-requires
+    tell-end-requires
     same-length
     same-length-2
-    same-length-3
-    same-length-4
-    returns
-    next-line-requires
-    enum-known-input
-    take-front-requires
-    loop-less
-    loop-again
-    enum-known-input-2
-    take-front-requires-2
-    lose-requires
-    same-length-5
-    same-length-6
-    same-length-7
-    same-length-8
-    returns-2
-    lose-requires-2
-    same-length-9
-    same-length-10
-    same-length-11
-    same-length-12
-    returns-3)
+    returns)

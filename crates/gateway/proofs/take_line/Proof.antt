@@ -24,7 +24,7 @@ lose-requires : tie.Need-lose-requires
 lose-requires c κs = search needs
 
 returns : tie.Need-returns
-returns c = rw (← c .before .before .read-line .ensures, c .enum-told .given .1)
+returns c = record { leaves = rw (← c .before .before .read-line .ensures, c .enum-told .given .1); said = rw (← c .before .before .read-line .ensures, c .enum-told .given .1) }
 
 same-length : tie.Need-same-length
 same-length c = search needs
@@ -33,15 +33,22 @@ same-length-2 : tie.Need-same-length-2
 same-length-2 c = search needs
 
 returns-2 : tie.Need-returns-2
-returns-2 c = rw (
-  ← c .before .before .before .before .before .before .before .before .before .before .before .read-line .ensures,
-  c .before .before .before .before .before .before .before .before .before .word .given .1,
-  c .before .before .before .before .before .before .take-reply .ensures .0,
-  c .before .before .before .before .before .before .take-reply .ensures .1,
-)
+returns-2 c = record {
+  leaves = rw (
+    ← c .before .before .before .before .before .before .before .before .before .before .before .read-line .ensures,
+    c .before .before .before .before .before .before .before .before .before .word .given .1,
+    c .before .before .before .before .before .before .take-reply .ensures .0,
+    c .before .before .before .before .before .before .take-reply .ensures .1,
+  );
+  said = rw (
+    ← c .before .before .before .before .before .before .before .before .before .before .before .read-line .ensures,
+    c .before .before .before .before .before .before .before .before .before .word .given .1,
+    ← c .before .before .before .before .before .before .take-reply .ensures .0,
+  ) (c .before .before .send .ensures);
+}
 
 returns-3 : tie.Need-returns-3
-returns-3 c = rw (← c .before .before .before .read-line .ensures, c .before .enum-told2 .given .1, c .lose .ensures)
+returns-3 c = record { leaves = rw (← c .before .before .before .read-line .ensures, c .before .enum-told2 .given .1, c .lose .ensures); said = rw (← c .before .before .before .read-line .ensures, c .before .enum-told2 .given .1) }
 
 pub take-line-spec : {M : Type 1} → statement M
 take-line-spec =

@@ -1,0 +1,3 @@
+pub mod VisitLines
+pub mod VisitPartsMirror
+pub mod VisitLineLaws

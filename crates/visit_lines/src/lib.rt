@@ -1,0 +1,1 @@
+// No code: the lines that the program gateway writes.
