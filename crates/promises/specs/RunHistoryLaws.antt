@@ -59,13 +59,13 @@ module _ (s : State) (m : Lent) (word : ℕ) (calls : List Call) (own : lending 
           ifAccepted (packetVerdict x word) (record { board = x .board; memory = x .memory; word = word } ∷ rest) rest
 
 -- a run as its packets: what they leave, what they carry out, how many are accepted
-record IsRun (s : State) (words : List ℕ) : Type 0 where
-  ends : after standIn s (packetsOf s words) ≡ run.ran words s
-  replies : repliesTo s (packetsOf s words) ≡ run.replies words s
-  accepted : length (finds standIn s (packetsOf s words)) ≡ length words
+pub record IsRun (s : State) (words : List ℕ) : Type 0 where
+  pub ends : after standIn s (packetsOf s words) ≡ run.ran words s
+  pub replies : repliesTo s (packetsOf s words) ≡ run.replies words s
+  pub accepted : length (finds standIn s (packetsOf s words)) ≡ length words
 
 module _ (w : ℕ) where
-  run-is : (words : List ℕ) (s : State) → Fits w s → SoundMemory (s .memory) → run.allWithin words ≡ true → IsRun s words
+  pub run-is : (words : List ℕ) (s : State) → Fits w s → SoundMemory (s .memory) → run.allWithin words ≡ true → IsRun s words
   unfolding run.ran run.replies run.allWithin after finds handed packetsOf
   run-is [] s h l e = record { ends = refl; replies = refl; accepted = refl }
   run-is (word ∷ words) s h l e =
@@ -112,11 +112,11 @@ reply-at (word ∷ words) s (suc i) beyond h = reply-at words (stepped s word) i
 
 -- ---- a history and the run after it
 -- a packet's memory is lent with it, so it does not matter what stood there
-place-after-lending : (s : State) (m : Lent) (words : List ℕ)
-    → after standIn s (packetsOf (lending s m) words) .place ≡ after standIn (lending s m) (packetsOf (lending s m) words) .place
+pub after-lending : (s : State) (m next : Lent) (words : List ℕ)
+    → lending (after standIn s (packetsOf (lending s m) words)) next ≡ lending (after standIn (lending s m) (packetsOf (lending s m) words)) next
 unfolding after packetsOf
-place-after-lending s m [] = refl
-place-after-lending s m (word ∷ words) = refl
+after-lending s m next [] = refl
+after-lending s m next (word ∷ words) = refl
 
 module _ (w : ℕ) (small : w ≤ 15) (history : List Call) (m : Lent) (words before : List ℕ) (r : Ran) (memory out : List ℕ)
     (meets : run.RunMeets (lending (after standIn (made w) history) m) words before r memory out)
@@ -151,7 +151,7 @@ module _ (w : ℕ) (small : w ≤ 15) (history : List Call) (m : Lent) (words be
   place-there : (some : List ℕ) → IsRun found some → after standIn (made w) (history ++ packetsOf found some) .place ≡ run.ran some found .place
   place-there some is =
       ap (λ (s : State). s .place) (after-both (made w) history (packetsOf found some))
-      ∙ place-after-lending (after standIn (made w) history) m some
+      ∙ ap (λ (s : State). s .place) (after-lending (after standIn (made w) history) m m some)
       ∙ ap (λ (s : State). s .place) (is .ends)
 
   carried : (i : ℕ) → i < length words → getD out i 0 ≡ nextReply (trailOf standIn w (history ++ packetsOf found (take i words)) .words)

@@ -1,4 +1,5 @@
 pub mod NotedReplies
+pub mod FoundByVisitLaws
 pub mod NotedRepliesLaws
 pub mod RequestPhasesLaws
 pub mod RequestUnderWayLaws

@@ -20,7 +20,7 @@ use Rattle.joined.specs.VisitReads.{startsAt}
 use Rattle.promises.specs.Machine.{standIn}
 use Rattle.promises.specs.TakenWords.{Word, closing}
 use Rattle.promises.specs.TakenWords.Closing.{reply}
-use Rattle.promises.specs.History.{Lent, Call, lending, after, made}
+use Rattle.promises.specs.History.{Lent, Call, lending, after, finds, made}
 use Rattle.promises.specs.RunHistory.{packetsOf}
 use Rattle.promises.specs.Demand3.{trailOf}
 
@@ -61,17 +61,31 @@ module _ (w : ℕ) (history : List Call) (m : Lent) (address longwords : ℕ) (n
   abbrev pub met : Joined
   met = joined i startsThere
 
-  -- all calls before it: the history, and then the visit's packets, each lent the memory that the one before it left
+  -- the visit's packets before it as calls, each lent the memory that the one before it left
+  abbrev pub visitCalls : List Call
+  visitCalls = packetsOf (foundByVisit w history m) (sentBy i startsThere)
+
+  -- all calls before it: the history, and then the visit's
   abbrev pub callsBefore : List Call
-  callsBefore = history ++ packetsOf (foundByVisit w history m) (sentBy i startsThere)
+  callsBefore = history ++ visitCalls
 
   -- how many command words they took (demand 3): the last of them has this number, counted from 1
   abbrev pub wordsBefore : ℕ
   wordsBefore = length (trailOf standIn w callsBefore .words)
 
+  -- A visit is its packets.
+  pub record VisitIsItsPackets : Type 0 where
+    -- Each of them is accepted.
+    pub accepted : length (finds standIn (foundByVisit w history m) visitCalls) ≡ length (sentBy i startsThere)
+    -- They leave the board, the place and each byte of memory that the next packet finds.
+    pub port : after standIn (foundByVisit w history m) visitCalls ≡ met .port
+    -- From the fresh board on, the history and they lead to that board and place.
+    pub board : after standIn (made w) callsBefore .board ≡ met .port .board
+    pub place : after standIn (made w) callsBefore .place ≡ met .port .place
+
   pub record NotedIsClosing : Type 0 where
     -- The port that the packet goes to is where those calls lead to.
-    pub port : after standIn (made w) callsBefore .place ≡ met .port .place
+    pub port : VisitIsItsPackets
     -- The last command word that they took (demand 3), and those before it:
     pub word : Word
     pub earlier : List Word

@@ -13,7 +13,6 @@ use Rattle.board.specs.Board.{atRest}
 use Rattle.board.specs.State.{State}
 use Rattle.plan.specs.Plan.{legalWord}
 use Rattle.step.specs.Step.{replyNow}
-use Rattle.sound.specs.Sound.{Sound, SoundBoard, SoundPlace}
 use Rattle.requests.specs.declared.Request.{Request}
 use Rattle.building.specs.RequestWords.{commandWord, operands}
 use Rattle.readings.specs.declared.Reader.{Reader}
@@ -37,6 +36,7 @@ use Rattle.promises.specs.RunHistory.{packetsOf}
 use Rattle.promises.specs.PlaceClosingLaws.{kept-from-fresh, place-closes-kept}
 use Rattle.promises.specs.Demand3.{lastClosed, trailOf}
 use Rattle.visit_closes.specs.NotedReplies.{sentBy, isClosed, notesAt, notesNow, foundByVisit, met, callsBefore, wordsBefore, NotedIsClosing}
+use Rattle.visit_closes.specs.FoundByVisitLaws.{found-sound, visit-is-its-packets}
 use Rattle.visit_closes.specs.TrailStepsLaws.{heard-begins, trail-goes-on, finds-lending}
 use Rattle.visit_closes.specs.RequestUnderWayLaws.{goes-ends}
 use Rattle.visit_closes.specs.VisitStagesLaws.{most-to-rest, Stands}
@@ -105,23 +105,13 @@ module _ (w : ℕ) (small : w ≤ 15) (history : List Call) (m : Lent) (limit : 
   abbrev start : Joined
   start = startsAt address longwords notes found
 
-  found-sound : Sound found
-  found-sound =
-      let fits = history-fits w (made w) history (fresh-fits w small) in
-      let own = sym (fits .board .setting) in
-      record {
-        board = subst (λ n. SoundBoard n (found .board)) own (fits .board);
-        place = subst (λ n. SoundPlace n (found .place)) own (fits .place);
-        memory = record { limit = limit; bytes = m .narrow };
-      }
-
   starts : Follows w start (trailOf standIn w history)
   starts = record {
-    sound = found-sound;
+    sound = found-sound w small history m limit;
     setting = history-fits w (made w) history (fresh-fits w small) .board .setting;
     place = sym (place-of-trail (made w) begun history refl);
     kept = kept-from-fresh w (finds standIn (made w) history) (finds-fit w (made w) history (fresh-fits w small));
-    stands = most-to-rest found-sound;
+    stands = most-to-rest (found-sound w small history m limit);
   }
 
   trail-is : (i : ℕ) → trailOf standIn w (callsBefore w history m address longwords notes i) ≡ along i start (trailOf standIn w history)
@@ -142,7 +132,7 @@ module _ (w : ℕ) (small : w ≤ 15) (history : List Call) (m : Lent) (limit : 
       let at = noted-by w (j .visit) (j .visit .stage) (j .port) (t .words) (h .stands) n in
       let resting : atRest (t .place .phase) ≡ true = ap (λ (p : Place). atRest (p .phase)) (h .place) ∙ at .rests in
       record {
-        port = place-of-trail (made w) begun (callsBefore w history m address longwords notes i) refl ∙ h .place;
+        port = visit-is-its-packets w small history m limit address longwords notes i;
         word = at .word;
         earlier = at .earlier;
         last = at .last;

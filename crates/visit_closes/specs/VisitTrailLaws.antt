@@ -56,7 +56,7 @@ within-by v (Asking sent reader) =
 within-by v AsRead = omega arith
 within-by v (NotRead reason) = omega arith
 
-packet-within : (v : Visit) → packetNow v ≤ 0x1FFFF
+pub packet-within : (v : Visit) → packetNow v ≤ 0x1FFFF
 unfolding nextOf
 packet-within v = within-by v (v .stage)
 
@@ -75,7 +75,11 @@ pub onward-is : (j : Joined) → isOver (j .visit .stage) ≡ false → replyNow
 unfolding exchangedFor visit.heard
 onward-is j on small = rw (on, le-leb (replyNow (j .port .place)) 0x1FFFF small)
 
-over-stays : (k : ℕ) (j : Joined) → isOver (j .visit .stage) ≡ true → joined k j ≡ j
+pub onward-port : (j : Joined) → isOver (j .visit .stage) ≡ false → onward j .port ≡ stepped (j .port) (packetNow (j .visit))
+unfolding exchangedFor
+onward-port j on = rw on
+
+pub over-stays : (k : ℕ) (j : Joined) → isOver (j .visit .stage) ≡ true → joined k j ≡ j
 unfolding joined exchangedFor
 over-stays zero j over = refl
 over-stays (suc k) j over = rw over (over-stays k j over)
@@ -141,11 +145,9 @@ module _ (w : ℕ) where
       (λ over. rw over (nothing-sent (j .port) t))
       (λ on.
       let t′ = noted standIn t (sends j) in
-      let port : onward j .port ≡ stepped (j .port) (packetNow (j .visit)) =
-      ap (λ (x : Joined). x .port) (onward-is j on (reply-within (h .sound))) in
       rw on
       (trail-packet t (packetNow (j .visit)) (sentBy k (onward j)) (h .sound) (packet-within (j .visit))
-      ∙ ap (λ (s : State). trail standIn t′ (finds standIn s (packetsOf s (sentBy k (onward j))))) (sym port)
+      ∙ ap (λ (s : State). trail standIn t′ (finds standIn s (packetsOf s (sentBy k (onward j))))) (sym (onward-port j on))
       ∙ trail-along k (onward j) t′ (follows-on j t h on)))
 
 -- ---- words are only added
