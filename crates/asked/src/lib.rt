@@ -8,6 +8,12 @@ use requests::Request;
 
 pub mod marker;
 
+// RDREG 0 to 15, RCREG of ten, RDMREG 0.
+pub const REGISTERS: u32 = 27;
+
+// So many longwords of the table between two markers.
+const BLOCK: u32 = 256;
+
 const CONTROL_NUMBERS: [u32; 10] = [
     0x002,
     0x004,
@@ -46,7 +52,7 @@ fn register_request(j: u32) -> Request
 fn begins_block(k: u32) -> bool
     ensures { λ r. ⌜ r ≡ begins k ⌝ }
 {
-    k % 256 == 0
+    k % BLOCK == 0
 }
 
 pub fn address_at(address: u32, k: u32) -> u32
@@ -67,26 +73,26 @@ fn table_request(address: u32, k: u32) -> Request
 pub fn request_at(address: u32, j: u32) -> Request
     ensures { λ r. ⌜ r ≡ requestAt address j ⌝ }
 {
-    if j < 27 {
+    if j < REGISTERS {
         return register_request(j);
     }
-    table_request(address, j - 27)
+    table_request(address, j - REGISTERS)
 }
 
 pub fn is_in_table(j: u32) -> bool
     ensures { λ r. ⌜ r ≡ inTable j ⌝ }
 {
-    27 <= j
+    REGISTERS <= j
 }
 
 // A marker comes before request j of so many.
 pub fn is_marked(ends: u32, j: u32) -> bool
     ensures { λ r. ⌜ r ≡ marked ends j ⌝ }
 {
-    if j < 27 {
+    if j < REGISTERS {
         return ends <= j;
     }
-    if begins_block(j - 27) {
+    if begins_block(j - REGISTERS) {
         return true;
     }
     ends <= j

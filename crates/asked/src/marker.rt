@@ -5,6 +5,9 @@ ghost use Rattle.asked.specs.Marker.{markHolds, markWord};
 // Enough for every port with W up to 15.
 const REST_NOPS: u32 = 19;
 
+// The number of its last packet, the first being 0.
+pub const LAST: u32 = REST_NOPS + 4;
+
 const ILLEGAL_WORD: u32 = 0xFFFF;
 
 pub fn word_of(i: u32) -> u32

@@ -12,6 +12,9 @@ use grounds::Ground;
 use readings::Outcome;
 use readings::Reader;
 
+// So many "not ready" in a row to one request end the visit.
+const PATIENCE: u32 = 256;
+
 // Why a visit ends not read.
 pub enum Reason {
     Late,
@@ -123,12 +126,12 @@ pub fn start(address: u32, longwords: u32, notes: &[u64]) -> Started
     if !is_table_in_range(address, longwords) {
         return Started::Refused(Ground::RequestOutOfRange);
     }
-    if notes.len() < 27 + longwords as usize {
+    if notes.len() < asked::REGISTERS as usize + longwords as usize {
         return Started::Refused(Ground::BufferTooShort);
     }
     Started::Begun(Visit {
         address: address,
-        ends: 27 + longwords,
+        ends: asked::REGISTERS + longwords,
         at: 0,
         packets: 0,
         stage: Stage::Marking(0),
@@ -190,7 +193,7 @@ fn mark_stage(visit: Visit, i: u32, reply: u32) -> Stage
     if !asked::marker::is_due(i, reply) {
         return Stage::NotRead(Reason::Late);
     }
-    if i < 23 {
+    if i < asked::marker::LAST {
         return Stage::Marking(i + 1);
     }
     if visit.ends <= visit.at {
@@ -251,7 +254,7 @@ fn close(visit: Visit, outcome: Outcome) -> Visit
 fn first_stage(sent: u32) -> Stage
     ensures { λ r. ⌜ r ≡ firstStage sent ⌝ }
 {
-    if sent < 256 {
+    if sent < PATIENCE {
         return Stage::Asking(sent + 1, Reader::First);
     }
     Stage::NotRead(Reason::NotReady)
@@ -260,7 +263,7 @@ fn first_stage(sent: u32) -> Stage
 fn second_stage(sent: u32, upper: u16) -> Stage
     ensures { λ r. ⌜ r ≡ secondStage sent upper ⌝ }
 {
-    if sent < 256 {
+    if sent < PATIENCE {
         return Stage::Asking(sent + 1, Reader::Second(upper));
     }
     Stage::Asking(sent, Reader::Second(upper))
