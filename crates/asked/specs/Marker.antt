@@ -5,16 +5,20 @@ use lib.Dec.{eqb, leb}
 use Rattle.command.specs.Reply.{complete, illegal}
 
 -- "4 + 15 NOPs bring every port with W up to 15 to rest"
-abbrev pub restNops : ℕ
-restNops = 19
+abbrev pub nopsToRest : ℕ
+nopsToRest = 19
 
 -- one NOP carries out the closing reply of what was under way, and one more that of a NOP
 abbrev pub illegalAt : ℕ
-illegalAt = restNops + 2
+illegalAt = nopsToRest + 2
 
 -- after the illegal word, two NOPs
 abbrev pub lastAt : ℕ
 lastAt = illegalAt + 2
+
+-- "A marker is 24 packets"
+abbrev pub markerPackets : ℕ
+markerPackets = suc lastAt
 
 -- no command has this word
 abbrev pub illegalWord : ℕ
@@ -25,4 +29,4 @@ markWord i = cond (eqb i illegalAt) illegalWord 0
 
 -- "the reply must be": any while the port comes to rest; then 0FFFF, and 1FFFF exactly at the packet after the illegal word
 unfoldable pub markHolds : ℕ → ℕ → Bool
-markHolds i reply = leb i restNops || eqb reply (cond (eqb i (suc illegalAt)) illegal complete)
+markHolds i reply = leb i nopsToRest || eqb reply (cond (eqb i (suc illegalAt)) illegal complete)

@@ -2,12 +2,11 @@
 use Prim.Native.Nat.{ℕ, _-_}
 use native.Mathlib.Omega.{arith}
 use mathlib.Core.Path.{_≡_, refl, sym, ap, _∙_}
-use mathlib.Core.Bool.{true, false}
+use mathlib.Core.Bool.{true, false, true≢false}
 use Rattle.laws.specs.TestLaws.{by-test}
 use Rattle.memory.specs.declared.Size.{Size}
 use Rattle.memory.specs.declared.Size.the-variants.{Long}
 use Rattle.memory.specs.Memory.{present}
-use Rattle.command.specs.Command.{decoded, decodedWord}
 use Rattle.command.specs.Reply.{complete, illegal}
 use Rattle.board.specs.declared.Chain.the-variants.{Dumping}
 use Rattle.board.specs.State.{State}
@@ -23,18 +22,7 @@ use Rattle.asked.specs.VisitRequests.{registersAsked, begins, requestAt, inTabl
 use Rattle.asked.specs.RequestAtLaws.{each-asked, asked-in-range}
 use Rattle.visit.specs.Visit.{isIllegal, isBusError, notable}
 use Rattle.visit_course.specs.VisitCourse.{leavesThere}
-
-pub not-both : {A : Type 0} → true ≡ false → A
-not-both e = let z : _≡_ {A = ℕ} 0 1 = cc in absurd (omega arith)
-
--- ---- what is legal
-legal-read : (address : ℕ) (s : Scene) → legalThere (Read Long address) s ≡ true
-unfolding decoded decodedWord
-legal-read address s = by-test (s .board .status .halted) (λ e. rw e) (λ e. rw e)
-
-legal-dump : (s : Scene) → s .chain ≡ Dumping → legalThere (Dump Long) s ≡ true
-unfolding decoded decodedWord
-legal-dump s chained = by-test (s .board .status .halted) (λ e. rw (e, chained)) (λ e. rw (e, chained))
+use Rattle.visit_course.specs.TableCourseLaws.{read-legal, dump-legal}
 
 -- the word after one that is illegal is a NOP
 second-is-nop : (address j : ℕ) (s : Scene) → legalThere (requestAt address j) s ≡ false → secondWord (requestAt address j) ≡ 0
@@ -44,7 +32,7 @@ second-is-nop address j s =
       register = λ b n h l. refl;
       control = λ b rc h l. omega arith;
       csr = λ b l. refl;
-      longword = λ t a h l. not-both (sym (legal-read a s) ∙ l);
+      longword = λ t a h l. absurd (true≢false (sym (read-legal a s) ∙ l));
       further = λ t b l. refl;
     })
 
@@ -80,18 +68,18 @@ reads-there : (request : Request) (size : Size) (address : ℕ) (s : Scene) → 
 reads-there request size address s m l =
     by-test (present (s .memory) size address)
     (λ t. record { notIllegal = rw (l, m, t); chains = λ b. rw (l, m, t) })
-    (λ t. record { notIllegal = rw (l, m, t); chains = λ b. not-both (rw (l, m, t) at b) })
+    (λ t. record { notIllegal = rw (l, m, t); chains = λ b. absurd (true≢false (rw (l, m, t) at b)) })
 
 pub in-table : (address j : ℕ) (s : Scene) → inTable j ≡ true → (begins (j - registersAsked) ≡ false → s .chain ≡ Dumping)
     → InTable (requestAt address j) s
 in-table address j s there chained =
     each-asked (λ r. InTable r s) address j
     (record {
-      register = λ b n h. not-both (sym there ∙ b);
-      control = λ b rc h. not-both (sym there ∙ b);
-      csr = λ b. not-both (sym there ∙ b);
-      longword = λ t a h. reads-there (Read Long a) Long a s refl (legal-read a s);
-      further = λ t b. reads-there (Dump Long) Long (s .pointer) s refl (legal-dump s (chained b));
+      register = λ b n h. absurd (true≢false (sym there ∙ b));
+      control = λ b rc h. absurd (true≢false (sym there ∙ b));
+      csr = λ b. absurd (true≢false (sym there ∙ b));
+      longword = λ t a h. reads-there (Read Long a) Long a s refl (read-legal a s);
+      further = λ t b. reads-there (Dump Long) Long (s .pointer) s refl (dump-legal s (chained b));
     })
 
 -- so every outcome is noted

@@ -3,7 +3,7 @@ use Prim.Native.Nat.{ℕ, zero, suc, _+_, _-_, _*_, _≤_}
 use native.Mathlib.Omega.{arith}
 use native.Mathlib.Nat.{add-zero, le-refl}
 use mathlib.Core.Path.{_≡_, sym, ap, _∙_}
-use mathlib.Core.Bool.{Bool, true, false, cond, _||_, or-true}
+use mathlib.Core.Bool.{Bool, true, false, cond, _||_, or-true, true≢false}
 use mathlib.Core.List.{List, map}
 use lib.Dec.{leb}
 use lib.ListN.{length, set}
@@ -17,26 +17,22 @@ use Rattle.sound.specs.Sound.{Sound}
 use Rattle.readings.specs.declared.Outcome.{Outcome}
 use Rattle.readings.specs.declared.Reader.the-variants.{First}
 use Rattle.asked.specs.VisitRequests.{registersAsked, begins, requestAt, inTable, marked}
-use Rattle.visit.specs.declared.Stage.{Stage}
+use Rattle.asked.specs.Marker.{markerPackets}
 use Rattle.visit.specs.declared.Stage.the-variants.{Marking, Asking, AsRead}
-use Rattle.visit.specs.Visit.{isIllegal, noteOf}
+use Rattle.visit.specs.Visit.{afterMarker, isIllegal, noteOf}
 use Rattle.round_trip.specs.Meaning.{Scene}
 use Rattle.round_trip.specs.RoundTrip.{resting, unchained, outcomeThere, packetsThere}
 use Rattle.round_trip.specs.BroughtToRest.{rested, restScene}
 use Rattle.round_trip.specs.TalkLaws.{packets-bound}
-use Rattle.visit_course.specs.VisitCourse.{Course, nothingMore, markerPackets, behindMarker, behind, noting, leavesThere, endsTable, courseFrom}
+use Rattle.visit_course.specs.VisitCourse.{Course, nothingMore, behindMarker, behind, noting, leavesThere, endsTable, courseFrom}
 use Rattle.joined.specs.Joined.{Joined, joined}
 use Rattle.joined.specs.JoinedLaws.{joined-more, joined-none, visitAt, meeting, closedAt, lastCounted}
 use Rattle.joined.specs.MarkerJoinedLaws.{marker-joined}
 use Rattle.joined.specs.RequestJoinedLaws.{request-joined}
 use Rattle.asked.specs.RequestAtLaws.{asked-in-range}
-use Rattle.joined.specs.AskedJoinedLaws.{not-both, asked-leaves, unchained-sound, asked-keeps-sound, InTable, in-table, asked-is-notable}
+use Rattle.joined.specs.AskedJoinedLaws.{asked-leaves, unchained-sound, asked-keeps-sound, InTable, in-table, asked-is-notable}
 
 -- ---- where both stand
--- with no marker to come first: the next request, or the end
-abbrev pub stageAt : ℕ → ℕ → Stage
-stageAt ends at = cond (leb ends at) AsRead (Asking 0 First)
-
 -- once all is asked that the course asks, from request j and packet p on
 abbrev pub cameTo : ℕ → ℕ → ℕ → List ℕ → Course → Joined
 cameTo address j p notes c =
@@ -44,9 +40,9 @@ cameTo address j p notes c =
     (resting (c .leaves) complete)
 
 none-left : (address j p : ℕ) (notes : List ℕ) (s : Scene)
-    → joined 0 (meeting (visitAt address j j p (stageAt j j)) notes (resting s complete)) ≡ cameTo address j p notes (nothingMore s)
+    → joined 0 (meeting (visitAt address j j p (afterMarker j j)) notes (resting s complete)) ≡ cameTo address j p notes (nothingMore s)
 none-left address j p notes s =
-    joined-none (meeting (visitAt address j j p (stageAt j j)) notes (resting s complete)) ∙ rw (le-leb j j (le-refl j), add-zero j, add-zero p)
+    joined-none (meeting (visitAt address j j p (afterMarker j j)) notes (resting s complete)) ∙ rw (le-leb j j (le-refl j), add-zero j, add-zero p)
 
 -- a request more, before the rest
 noted-first : (address j p n : ℕ) (notes : List ℕ) (o : Outcome) (c : Course)
@@ -59,7 +55,7 @@ noted-first address j p n notes o c =
 -- ---- a marker first
 pub marker-first : (address ends at p : ℕ) (notes : List ℕ) (rest : Scene → Course) {s : State} → Sound s → p + markerPackets ≤ lastCounted
     → joined (rest (unchained (restScene s)) .packets)
-    (meeting (visitAt address ends at (p + markerPackets) (stageAt ends at)) notes (resting (unchained (restScene s)) complete))
+    (meeting (visitAt address ends at (p + markerPackets) (afterMarker ends at)) notes (resting (unchained (restScene s)) complete))
     ≡ cameTo address at (p + markerPackets) notes (rest (unchained (restScene s)))
     → joined (behindMarker rest (restScene s) .packets) (meeting (visitAt address ends at p (Marking 0)) notes s)
     ≡ cameTo address at p notes (behindMarker rest (restScene s))
@@ -73,7 +69,7 @@ marker-first address ends at p notes rest {s} f more goes =
 
 -- .. where the port is at rest
 marker-between : (address ends at p : ℕ) (notes : List ℕ) (rest : Scene → Course) (s : Scene) → Sound (resting s complete) → p + markerPackets ≤ lastCounted
-    → joined (rest (unchained s) .packets) (meeting (visitAt address ends at (p + markerPackets) (stageAt ends at)) notes (resting (unchained s) complete))
+    → joined (rest (unchained s) .packets) (meeting (visitAt address ends at (p + markerPackets) (afterMarker ends at)) notes (resting (unchained s) complete))
     ≡ cameTo address at (p + markerPackets) notes (rest (unchained s))
     → joined (behindMarker rest s .packets) (meeting (visitAt address ends at p (Marking 0)) notes (resting s complete))
     ≡ cameTo address at p notes (behindMarker rest s)
@@ -88,13 +84,13 @@ marked-at-end t ends j h = rw (le-leb ends j h, or-true, or-true)
 
 unmarked-is-not-end : (t : Bool) (ends j : ℕ) → (t || marked ends j) ≡ false → leb ends j ≡ false
 unmarked-is-not-end t ends j h =
-    by-test (leb ends j) (λ e. not-both (sym (marked-at-end t ends j (leb-true ends j e)) ∙ h)) (λ e. e)
+    by-test (leb ends j) (λ e. absurd (true≢false (sym (marked-at-end t ends j (leb-true ends j e)) ∙ h))) (λ e. e)
 
 -- what follows a request that is closed with this outcome at rest, where the rest goes on as its course says
 module _ (address j left p : ℕ) (notes : List ℕ) (o : Outcome) (rest : Scene → Course) (s : Scene) (f : Sound (resting s complete)) where
   abbrev Goes : ℕ → Scene → Type 0
   Goes p x =
-      joined (rest x .packets) (meeting (visitAt address (suc j + left) (suc j) p (stageAt (suc j + left) (suc j))) notes (resting x complete))
+      joined (rest x .packets) (meeting (visitAt address (suc j + left) (suc j) p (afterMarker (suc j + left) (suc j))) notes (resting x complete))
       ≡ cameTo address (suc j) p notes (rest x)
 
   abbrev marks : Bool
@@ -128,7 +124,7 @@ Chained left j s = 1 ≤ left → inTable j ≡ true → begins (j - registersAs
 first-begins : {A : Type 0} (j : ℕ) → inTable j ≡ false → inTable (suc j) ≡ true → begins (suc j - registersAsked) ≡ false → A
 first-begins j before there further =
     let first : suc j - registersAsked ≡ 0 = omega (arith, leb-false registersAsked j before, leb-true registersAsked (suc j) there) in
-    not-both (rw first at further)
+    absurd (true≢false (rw first at further))
 
 module _ (address j left : ℕ) (s : Scene) (chained : Chained (suc left) j s) where
   abbrev outcome : Outcome
@@ -141,7 +137,7 @@ module _ (address j left : ℕ) (s : Scene) (chained : Chained (suc left) j s) w
   unfolding marked
   marked-chained m x some there further =
       by-test (inTable j)
-      (λ t. not-both (sym m ∙ rw (chained-table t .notIllegal, there, further, lt-leb (suc j + left) (suc j) (omega arith))))
+      (λ t. absurd (true≢false (sym m ∙ rw (chained-table t .notIllegal, there, further, lt-leb (suc j + left) (suc j) (omega arith)))))
       (λ t. first-begins j t there further)
 
   unmarked-chained : endsTable j outcome ≡ false → Chained left (suc j) (leavesThere (requestAt address j) s)
@@ -154,11 +150,11 @@ abbrev pub mostEach : ℕ
 mostEach = 22 + markerPackets
 
 pub course-joined : (left address j p : ℕ) (notes : List ℕ) (s : Scene) → Sound (resting s complete) → Chained left j s → p + mostEach * left ≤ lastCounted
-    → joined (courseFrom left address j s .packets) (meeting (visitAt address (j + left) j p (stageAt (j + left) j)) notes (resting s complete))
+    → joined (courseFrom left address j s .packets) (meeting (visitAt address (j + left) j p (afterMarker (j + left) j)) notes (resting s complete))
     ≡ cameTo address j p notes (courseFrom left address j s)
 unfolding courseFrom
 course-joined zero address j p notes s f chained more =
-    ap (λ ends. joined 0 (meeting (visitAt address ends j p (stageAt ends j)) notes (resting s complete))) (add-zero j) ∙ none-left address j p notes s
+    ap (λ ends. joined 0 (meeting (visitAt address ends j p (afterMarker ends j)) notes (resting s complete))) (add-zero j) ∙ none-left address j p notes s
 course-joined (suc left) address j p notes s f chained more =
     let r = requestAt address j in
     let o = outcomeThere r s in

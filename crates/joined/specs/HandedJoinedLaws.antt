@@ -1,7 +1,7 @@
 -- What a visit joined with the stand-in hands over: the outcome of each request in turn, and nothing beyond them.
-use Prim.Native.Nat.{ℕ, zero, suc, _+_, _^_, _≤_, _<_}
+use Prim.Native.Nat.{ℕ, zero, suc, _+_, _≤_, _<_}
 use native.Mathlib.Omega.{arith}
-use mathlib.Core.Path.{_≡_, refl, ap, _∙_}
+use mathlib.Core.Path.{_≡_, ap, _∙_}
 use mathlib.Core.Bool.{true, _||_}
 use mathlib.Core.List.{List, [], _∷_, _++_, map}
 use lib.ListN.{length, getD, drop, length-append, length-map, List·getD-append, List·getD-map}
@@ -15,11 +15,12 @@ use Rattle.board.specs.State.{State}
 use Rattle.control.specs.Control.{controlIndex, controlListed}
 use Rattle.sound.specs.Sound.{Sound}
 use Rattle.readings.specs.declared.Outcome.{Outcome}
-use Rattle.readings.specs.declared.Outcome.the-variants.{Value, Complete, BusError, Illegal}
+use Rattle.readings.specs.declared.Outcome.the-variants.{Value}
 use Rattle.asked.specs.VisitRequests.{registersAsked, requestAt, marked}
 use Rattle.visit.specs.declared.Handed.the-variants.{Given, Nothing}
 use Rattle.visit.specs.Visit.{tableInRange, noteOf, isIllegal}
-use Rattle.visit.specs.HandedOver.{outcomeOf, handedOver}
+use Rattle.visit.specs.HandedOver.{handedOver}
+use Rattle.visit.specs.VisitLaws.{Narrow, note-read-back}
 use Rattle.round_trip.specs.Meaning.{Scene, meaning, reads}
 use Rattle.round_trip.specs.RoundTrip.{resting, unchained, legalThere, outcomeThere}
 use Rattle.round_trip.specs.BroughtToRest.{restBudget, restScene}
@@ -31,21 +32,7 @@ use Rattle.asked.specs.RequestAtLaws.{each-asked}
 use Rattle.joined.specs.AskedJoinedLaws.{unchained-sound, asked-keeps-sound}
 use Rattle.joined.specs.VisitReadsLaws.{visit-reads}
 
--- ---- a note is read back
--- a value has 32 bits
-abbrev Narrow : Outcome → Type 0
-Narrow (Value v) = v < 2 ^ 32
-Narrow Complete = Unit {0}
-Narrow BusError = Unit {0}
-Narrow Illegal = Unit {0}
-
-read-back : (o : Outcome) → Narrow o → outcomeOf (noteOf o) ≡ o
-read-back (Value v) small = rw (lt-ltb v (2 ^ 32) small)
-read-back Complete small = refl
-read-back BusError small = refl
-read-back Illegal small = refl
-
--- ---- each outcome
+-- ---- each outcome is read back from its note
 module _ (s : Scene) (f : Sound (resting s complete)) where
   longword-narrow : (address : ℕ) → Narrow (reads Long address s .outcome)
   longword-narrow address =
@@ -111,7 +98,7 @@ module _ (address longwords : ℕ) (before : List ℕ) (s : State) (f : Sound s)
       let note : getD (notes ++ rest) i 0 ≡ noteOf (getD os i (Value 0)) =
       List·getD-append notes rest 0 i (omega arith) ∙ List·getD-map noteOf os i (Value 0) in
       rw (r .read, r .ends, r .notes, lt-ltb i (length os) there, lt-ltb i (length (notes ++ rest)) long, note)
-      (ap Given (read-back (getD os i (Value 0)) (narrow-at os i visit-narrow)))
+      (ap Given (note-read-back (getD os i (Value 0)) (narrow-at os i visit-narrow)))
 
   pub nothing-beyond : (i : ℕ) → length (courseOf address longwords s .outcomes) ≤ i
       → handedOver (visited address longwords before s .visit) (visited address longwords before s .notes) i ≡ Nothing

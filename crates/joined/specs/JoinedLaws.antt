@@ -3,9 +3,8 @@ use Prim.Native.Nat.{ℕ, zero, suc, _+_, _≤_, _<_}
 use native.Mathlib.Omega.{arith}
 use native.Mathlib.Nat.{zero-add}
 use mathlib.Core.Path.{_≡_, refl}
-use mathlib.Core.Bool.{true, false, cond}
+use mathlib.Core.Bool.{true, false}
 use mathlib.Core.List.{List}
-use lib.Dec.{leb}
 use lib.ListN.{getD, set}
 use borrow.Author.Tests.{le-leb, lt-ltb, ne-eqb}
 use Rattle.command.specs.Reply.{complete}
@@ -23,9 +22,10 @@ use Rattle.readings.specs.Reader.{afterReply, done}
 use Rattle.asked.specs.VisitRequests.{requestAt}
 use Rattle.asked.specs.Marker.{lastAt, markWord, markHolds}
 use Rattle.visit.specs.declared.Stage.{Stage}
-use Rattle.visit.specs.declared.Stage.the-variants.{Marking, Asking, AsRead}
+use Rattle.visit.specs.declared.Stage.the-variants.{Marking, Asking}
 use Rattle.visit.specs.declared.Visit.{Visit}
-use Rattle.visit.specs.Visit.{nextOf, heard, noted, noteOf, patience, afterwards, endsAfter, stageAfter, notable, closedBy, notedBy, onStage, readBy}
+use Rattle.visit.specs.Visit.{nextOf, patience, onStage, afterMarker, afterwards, endsAfter, stageAfter, notable, closedBy, readBy, heard}
+use Rattle.visit.specs.Visit.{noteOf, notedBy, noted}
 use Rattle.joined.specs.Joined.{Joined, exchangedFor, onward, joined}
 
 pub joined-more : (m n : ℕ) (j : Joined) → joined (m + n) j ≡ joined n (joined m j)
@@ -91,7 +91,7 @@ module _ (address ends at p : ℕ) (notes : List ℕ) (s : State) (small : reply
 
   pub mark-last : markHolds lastAt (replyNow (s .place)) ≡ true
       → onward (meeting (visitAt address ends at p (Marking lastAt)) notes s)
-      ≡ meeting (visitAt address ends at (suc p) (cond (leb ends at) AsRead (Asking 0 First))) notes (stepped s (markWord lastAt))
+      ≡ meeting (visitAt address ends at (suc p) (afterMarker ends at)) notes (stepped s (markWord lastAt))
   unfolding exchangedFor nextOf heard noted
   mark-last holds = rw (le-leb (replyNow (s .place)) 0x1FFFF small, holds, lt-ltb p lastCounted more)
 

@@ -1,30 +1,30 @@
 -- A gateway's visit (docs/gateway.md) joined with the stand-in: from any sound state it ends as read, and what it notes is what its requests mean in turn.
-use Prim.Native.Nat.{ℕ, zero, suc, _+_, _*_, _^_, _%_, _≤_}
+use Prim.Native.Nat.{ℕ, zero, suc, _+_, _≤_}
 use native.Mathlib.Omega.{arith}
 use native.Mathlib.Nat.{zero-add}
 use mathlib.Core.Path.{_≡_, ap, sym, _∙_}
-use mathlib.Core.Bool.{true, _&&_, _||_}
+use mathlib.Core.Bool.{true, _||_, true≢false}
 use mathlib.Core.List.{List, _++_, map}
-use lib.Dec.{eqb, leb}
 use lib.ListN.{length, drop, length-map}
 use lib.Seq.{sets-eq}
-use borrow.Author.Tests.{leb-true}
-use Rattle.laws.specs.TestLaws.{by-test, both-hold}
+use Rattle.laws.specs.TestLaws.{by-test}
 use Rattle.command.specs.Reply.{complete}
 use Rattle.board.specs.State.{State}
 use Rattle.sound.specs.Sound.{Sound}
 use Rattle.asked.specs.VisitRequests.{registersAsked, requestAt, marked}
-use Rattle.visit.specs.Visit.{tableInRange, noteOf, isIllegal}
+use Rattle.asked.specs.Marker.{markerPackets}
+use Rattle.visit.specs.Visit.{tableInRange, afterMarker, noteOf, isIllegal}
+use Rattle.visit.specs.VisitLaws.{table-bound}
 use Rattle.round_trip.specs.Meaning.{Scene}
 use Rattle.round_trip.specs.RoundTrip.{resting, unchained, outcomeThere}
 use Rattle.round_trip.specs.BroughtToRest.{restBudget, restScene}
 use Rattle.round_trip.specs.BroughtToRestLaws.{rest-keeps-sound}
-use Rattle.visit_course.specs.VisitCourse.{markerPackets, leavesThere, endsTable, courseFrom, courseOf}
+use Rattle.visit_course.specs.VisitCourse.{leavesThere, endsTable, courseFrom, courseOf}
 use Rattle.joined.specs.Joined.{Joined, joined}
 use Rattle.joined.specs.VisitReads.{startsAt, VisitReads}
 use Rattle.joined.specs.JoinedLaws.{visitAt, meeting}
-use Rattle.joined.specs.AskedJoinedLaws.{not-both, unchained-sound}
-use Rattle.joined.specs.CourseJoinedLaws.{stageAt, cameTo, marker-first, course-joined}
+use Rattle.joined.specs.AskedJoinedLaws.{unchained-sound}
+use Rattle.joined.specs.CourseJoinedLaws.{cameTo, marker-first, course-joined}
 
 -- no more outcomes than requests
 outcomes-bound : (left address j : ℕ) (s : Scene) → length (courseFrom left address j s .outcomes) ≤ left
@@ -39,12 +39,6 @@ outcomes-bound (suc left) address j s =
     (λ m. rw (t, m) (omega (arith, outcomes-bound left address (suc j) (unchained s′))))
     (λ m. rw (t, m) (omega (arith, outcomes-bound left address (suc j) s′))))
 
--- "at most 65,536"
-table-bound : (address longwords : ℕ) → tableInRange address longwords ≡ true → longwords ≤ 65536
-table-bound address longwords h =
-    let size = both-hold (eqb (address % 4) 0) (leb longwords 65536 && leb (address + 4 * longwords) (2 ^ 32)) h .1 in
-    leb-true longwords 65536 (both-hold (leb longwords 65536) (leb (address + 4 * longwords) (2 ^ 32)) size .0)
-
 module _ (address longwords : ℕ) (before : List ℕ) (s : State) (f : Sound s) (fits : tableInRange address longwords ≡ true) where
   -- where both come to
   pub visit-joined : joined (courseOf address longwords s .packets) (startsAt address longwords before s)
@@ -57,9 +51,9 @@ module _ (address longwords : ℕ) (before : List ℕ) (s : State) (f : Sound s)
       let sound = unchained-sound (rest-keeps-sound restBudget s f) in
       let rest = courseFrom asked address 0 in
       marker-first address asked 0 0 before rest f (omega arith)
-      (ap (λ ends. joined (rest found .packets) (meeting (visitAt address ends 0 markerPackets (stageAt ends 0)) before (resting found complete)))
+      (ap (λ ends. joined (rest found .packets) (meeting (visitAt address ends 0 markerPackets (afterMarker ends 0)) before (resting found complete)))
       (sym (zero-add asked))
-      ∙ course-joined asked address 0 markerPackets before found sound (λ some there. not-both (sym there)) (omega arith))
+      ∙ course-joined asked address 0 markerPackets before found sound (λ some there. absurd (true≢false (sym there))) (omega arith))
 
   outcomes-fit : length (courseOf address longwords s .outcomes) ≤ registersAsked + longwords
   unfolding courseOf

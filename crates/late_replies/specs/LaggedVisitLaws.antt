@@ -13,7 +13,7 @@ use Rattle.visit.specs.declared.Visit.{Visit}
 use Rattle.visit.specs.HandedOver.{isAsRead}
 use Rattle.visit.specs.Visit.{heard}
 use Rattle.late_replies.specs.LateReplies.{Late, Lag, cameIn, lateBy, lagged, Begins, after, stageAt, Passes, EndsAt}
-use Rattle.late_replies.specs.HeardStageLaws.{markAt, passed-by, read-by, read-stays-read}
+use Rattle.visit.specs.HeardStageLaws.{markAt, passed-by, read-by, read-stays-read}
 use Rattle.late_replies.specs.MarkerReplyLaws.{exchanged-visit, Known, marks-within, begins-known, known-on}
 
 -- ---- so many packets and one more

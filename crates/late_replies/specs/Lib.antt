@@ -1,6 +1,5 @@
 pub mod LateReplies
 pub mod NopReplyLaws
-pub mod HeardStageLaws
 pub mod MarkerReplyLaws
 pub mod LaggedVisitLaws
 pub mod LateRepliesLaws

@@ -21,7 +21,7 @@ use Rattle.visit.specs.Visit.{nextOf, isOver, heard, noted}
 use Rattle.joined.specs.Joined.{Joined, packetNow, exchangedFor}
 use Rattle.late_replies.specs.LateReplies.{Late, cameIn, lateBy, reach, Begins}
 use Rattle.late_replies.specs.NopReplyLaws.{nop-never-illegal, illegal-is-at-rest, nop-completes}
-use Rattle.late_replies.specs.HeardStageLaws.{Anew, asked-anew, after-marker, marking-leads, markAt}
+use Rattle.visit.specs.HeardStageLaws.{Anew, asked-anew, after-marker, marking-leads, markAt}
 
 -- ---- one packet of the visit and the port
 pub exchanged-visit : (j : Joined) (reply : ℕ) → exchangedFor j reply .visit ≡ heard (j .visit) reply

@@ -5,3 +5,4 @@ pub mod VisitLaws
 pub mod VisitUnique
 pub mod VisitEnds
 pub mod VisitEndsLaws
+pub mod HeardStageLaws

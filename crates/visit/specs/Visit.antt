@@ -78,12 +78,12 @@ counted packets = cond (ltb packets 0xFFFFFFFF) (suc packets) packets
 abbrev pub onStage : Visit → Stage → Visit
 onStage v stage = record { address = v .address; ends = v .ends; at = v .at; packets = counted (v .packets); stage = stage }
 
--- "It ends as read with the last packet of the last marker"
-abbrev pub afterMarker : Visit → Stage
-afterMarker v = cond (leb (v .ends) (v .at)) AsRead (Asking 0 First)
+-- "It ends as read with the last packet of the last marker"; behind another comes the next request
+abbrev pub afterMarker : ℕ → ℕ → Stage
+afterMarker ends at = cond (leb ends at) AsRead (Asking 0 First)
 
 abbrev pub markStage : Visit → ℕ → ℕ → Stage
-markStage v i reply = cond (markHolds i reply) (cond (ltb i lastAt) (Marking (suc i)) (afterMarker v)) (NotRead Late)
+markStage v i reply = cond (markHolds i reply) (cond (ltb i lastAt) (Marking (suc i)) (afterMarker (v .ends) (v .at))) (NotRead Late)
 
 abbrev pub isIllegal : Outcome → Bool
 isIllegal (outcome.Value value) = false

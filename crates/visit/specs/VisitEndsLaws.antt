@@ -89,7 +89,7 @@ within-nearer v stage (NotRead reason) f = record { kept = tt; falls = omega (ar
 marker-nearer : (v : Visit) (i reply : ℕ) → i ≤ 23 → Nearer v (Marking i) (onStage v (markStage v i reply))
 marker-nearer v i reply few =
     let to = Within v (Marking i) in
-    let next = either to (ltb i lastAt) (Marking (suc i)) (afterMarker v)
+    let next = either to (ltb i lastAt) (Marking (suc i)) (afterMarker (v .ends) (v .at))
     (λ e. (omega (arith, ltb-true i 23 e), omega (arith, ltb-true i 23 e)))
     (λ e. either to (leb (v .ends) (v .at)) AsRead (Asking 0 First) (λ e. (tt, omega arith))
     (λ e. ((omega arith, leb-false (v .ends) (v .at) e), omega arith))) in
@@ -201,7 +201,7 @@ heard-nearer v reply kept going =
     (λ e. within-nearer v (v .stage) (NotRead WordTooLarge) (tt, positive)))
 
 -- ---- all replies
-all-over : (v : Visit) (replies : List ℕ) → isOver (v .stage) ≡ true → heardAll v replies ≡ v
+pub all-over : (v : Visit) (replies : List ℕ) → isOver (v .stage) ≡ true → heardAll v replies ≡ v
 all-over v [] over = refl
 all-over v (reply ∷ replies) over = rw (over-stays v reply over) (all-over v replies over)
 
@@ -235,13 +235,6 @@ module _ (most : ℕ) (small : most < 0xFFFFFFFF) where
       (λ over. rw (all-over v (reply ∷ replies) over, over) (omega arith))
       (λ going. rw going (omega (arith, all-counted replies (heard v reply) (still-going v reply f going), counted-once v reply f going)))
 
-  within-budget : (replies : List ℕ) (v : Visit) → Going most v → heardAll v replies .packets ≤ most
-  within-budget [] v f = omega (arith, f .budget)
-  within-budget (reply ∷ replies) v f =
-      by-test (isOver (v .stage))
-      (λ over. rw (all-over v (reply ∷ replies) over) (omega (arith, f .budget)))
-      (λ going. within-budget replies (heard v reply) (still-going v reply f going))
-
 -- ---- a visit that was begun
 module _ (address longwords room : ℕ) {v : Visit} (started : startOf address longwords room ≡ Begun v) where
   begun-going : Going (mostPackets (v .ends)) v
@@ -262,6 +255,3 @@ module _ (address longwords room : ℕ) {v : Visit} (started : startOf address l
   packets-are-replies replies =
       all-counted (mostPackets (v .ends)) most-packets-fit replies v begun-going
       ∙ rw (begun-with address longwords room started .visit) (omega arith)
-
-  pub packets-bound : (replies : List ℕ) → heardAll v replies .packets ≤ mostPackets (v .ends)
-  packets-bound replies = within-budget (mostPackets (v .ends)) most-packets-fit replies v begun-going

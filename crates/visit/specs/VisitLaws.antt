@@ -4,7 +4,7 @@ use mathlib.Core.Path.{_≡_, refl}
 use mathlib.Core.Bool.{true, false, _&&_}
 use mathlib.Core.List.{List, [], _∷_}
 use lib.Dec.{eqb, leb}
-use borrow.Author.Tests.{leb-true, lt-ltb}
+use borrow.Author.Tests.{eqb-true, leb-true, lt-ltb}
 use Rattle.laws.specs.TestLaws.{either, both-hold}
 use Rattle.grounds.specs.declared.Ground.the-variants.{RequestOutOfRange, BufferTooShort}
 use Rattle.grounds.specs.declared.Verdict.{Verdict}
@@ -23,11 +23,22 @@ use Rattle.visit.specs.Visit.{tableInRange, startVerdict, begun, started
 use Rattle.visit.specs.HandedOver.{isAsRead, outcomeOf, handedOver}
 
 -- ---- how it begins
--- a table is of 65,536 longwords at most
-pub table-bound : (address longwords : ℕ) → tableInRange address longwords ≡ true → longwords ≤ 65536
-table-bound address longwords h =
-    let fits = leb (address + 4 * longwords) (2 ^ 32) in
-    leb-true longwords 65536 (both-hold (leb longwords 65536) fits (both-hold (eqb (address % 4) 0) (leb longwords 65536 && fits) h .1) .0)
+-- its table
+module _ (address longwords : ℕ) (range : tableInRange address longwords ≡ true) where
+  parts : (eqb (address % 4) 0 ≡ true) × ((leb longwords 65536 && leb (address + 4 * longwords) (2 ^ 32)) ≡ true)
+  parts = both-hold (eqb (address % 4) 0) (leb longwords 65536 && leb (address + 4 * longwords) (2 ^ 32)) range
+
+  sizes : (leb longwords 65536 ≡ true) × (leb (address + 4 * longwords) (2 ^ 32) ≡ true)
+  sizes = both-hold (leb longwords 65536) (leb (address + 4 * longwords) (2 ^ 32)) (parts .1)
+
+  pub table-whole : address % 4 ≡ 0
+  table-whole = eqb-true (address % 4) 0 (parts .0)
+
+  pub table-bound : longwords ≤ 65536
+  table-bound = leb-true longwords 65536 (sizes .0)
+
+  pub table-within : address + 4 * longwords ≤ 2 ^ 32
+  table-within = leb-true (address + 4 * longwords) (2 ^ 32) (sizes .1)
 
 pub record BegunWith (address longwords room : ℕ) (v : Visit) : Type 0 where
   pub visit : v ≡ begun address longwords
@@ -69,8 +80,15 @@ over-notes-nothing v reply notes over =
     (λ e. refl)
 
 -- ---- what is handed over
-pub note-read-back : (o : Outcome) → ((value : ℕ) → o ≡ Value value → value < 2 ^ 32) → outcomeOf (noteOf o) ≡ o
-note-read-back (Value value) small = rw (lt-ltb value (2 ^ 32) (small value refl))
+-- a value has 32 bits
+abbrev pub Narrow : Outcome → Type 0
+Narrow (Value value) = value < 2 ^ 32
+Narrow Complete = Unit {0}
+Narrow BusError = Unit {0}
+Narrow Illegal = Unit {0}
+
+pub note-read-back : (o : Outcome) → Narrow o → outcomeOf (noteOf o) ≡ o
+note-read-back (Value value) small = rw (lt-ltb value (2 ^ 32) small)
 note-read-back Complete small = refl
 note-read-back BusError small = refl
 note-read-back Illegal small = refl

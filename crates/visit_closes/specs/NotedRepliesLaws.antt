@@ -2,7 +2,7 @@
 use Prim.Native.Nat.{ℕ, zero, suc, _+_, _-_, _≤_, _<_}
 use native.Mathlib.Omega.{arith}
 use mathlib.Core.Path.{_≡_, refl, sym, ap, _∙_, subst}
-use mathlib.Core.Bool.{true, false, cond}
+use mathlib.Core.Bool.{true, false, cond, true≢false}
 use mathlib.Core.List.{List, [], _∷_}
 use lib.Dec.{eqb, leb}
 use lib.ListN.{length}
@@ -25,7 +25,6 @@ use Rattle.visit.specs.Visit.{requestNow, isOver, readerAfter, notedBy, notedAt
 use Rattle.visit.specs.Visit as visit
 use Rattle.joined.specs.Joined.{Joined, exchangedFor, onward, joined}
 use Rattle.joined.specs.VisitReads.{startsAt}
-use Rattle.joined.specs.AskedJoinedLaws.{not-both}
 use Rattle.promises.specs.Machine.{standIn}
 use Rattle.promises.specs.TakenWords.{Word, stage}
 use Rattle.promises.specs.TakenWords.Closing.{reply}
@@ -60,26 +59,26 @@ record Noted (r : Request) (s : State) (words : List Word) : Type 0 where
 
 noted-by : (w : ℕ) (v : Visit) (stage : Stage) (s : State) (words : List Word) → Stands v stage s words → notesAt v stage (replyNow (s .place)) ≡ true
     → Noted (requestNow v) s words
-noted-by w v (Marking i) s words h n = not-both (sym n)
-noted-by w v (Asking zero reader) s words h n = not-both (sym n)
+noted-by w v (Marking i) s words h n = absurd (true≢false (sym n))
+noted-by w v (Asking zero reader) s words h n = absurd (true≢false (sym n))
 noted-by w v (Asking (suc sent) reader) s words u n =
     let over = closed-is-done (readerAfter v reader (replyNow (s .place))) (rw (ne-eqb (suc sent) 0 (omega arith)) at n) in
     let e = goes-ends w (requestNow v) (suc sent) reader s (u .word) (u .goes) over in
     record { word = u .word; earlier = u .earlier; last = u .last; command = u .command; sent = e .whole; rests = e .rests }
-noted-by w v AsRead s words h n = not-both (sym n)
-noted-by w v (NotRead reason) s words h n = not-both (sym n)
+noted-by w v AsRead s words h n = absurd (true≢false (sym n))
+noted-by w v (NotRead reason) s words h n = absurd (true≢false (sym n))
 
 not-over : (v : Visit) (stage : Stage) (answer : ℕ) → notesAt v stage answer ≡ true → isOver stage ≡ false
 not-over v (Marking i) answer n = refl
 not-over v (Asking sent reader) answer n = refl
-not-over v AsRead answer n = not-both (sym n)
-not-over v (NotRead reason) answer n = not-both (sym n)
+not-over v AsRead answer n = absurd (true≢false (sym n))
+not-over v (NotRead reason) answer n = absurd (true≢false (sym n))
 
 -- nothing else is noted
 kept-by : (j : ℕ) (x : Reader) (notes : List ℕ) → isClosed x ≡ false → notedBy j x notes ≡ notes
 kept-by j First notes n = refl
 kept-by j (Second upper) notes n = refl
-kept-by j (Closed outcome) notes n = not-both n
+kept-by j (Closed outcome) notes n = absurd (true≢false n)
 kept-by j (Bad ground) notes n = refl
 
 kept-at : (v : Visit) (stage : Stage) (answer : ℕ) (notes : List ℕ) → notesAt v stage answer ≡ false → notedAt v stage answer notes ≡ notes

@@ -3,7 +3,7 @@ use Prim.Native.Nat.{ℕ, zero, suc, _+_, _≤_}
 use native.Mathlib.Omega.{arith}
 use native.Mathlib.Nat.{add-zero}
 use mathlib.Core.Path.{_≡_, refl, sym, ap, ap₂, _∙_, subst}
-use mathlib.Core.Bool.{true, false, cond}
+use mathlib.Core.Bool.{true, false, cond, true≢false}
 use mathlib.Core.List.{List, [], _∷_, _++_, append-nil, append-assoc}
 use lib.ListN.{length, getD}
 use Rattle.laws.specs.TestLaws.{by-test}
@@ -26,7 +26,6 @@ use Rattle.round_trip.specs.RoundTrip.{resting, sceneOf, legalThere}
 use Rattle.round_trip.specs.MeantWorkLaws.{sound-is-sized}
 use Rattle.round_trip.specs.PacketTakenLaws.{illegal-taken, nop-at-rest}
 use Rattle.round_trip.specs.BroughtToRestLaws.{rest-is-resting}
-use Rattle.joined.specs.AskedJoinedLaws.{not-both}
 use Rattle.promises.specs.TakenWords.{Word}
 use Rattle.promises.specs.Environment.{begins, heard}
 use Rattle.promises.specs.Demand3.{lastClosed}
@@ -158,7 +157,7 @@ module _ (w : ℕ) (r : Request) (sent : ℕ) (reader : Reader) (s : State) wher
     legal-on : (due : List ℕ) (n : ℕ) → Ahead (kindOf r) due n reader s → o .operands ++ due ≡ operands r
         → ((k : ℕ) → getD (builtWords r) (sent + k) 0 ≡ getD due k 0) → sent + length due + n ≤ 21 → done reader′ ≡ false
         → Under r (suc sent) reader′ s′ (heard (foundIn s sendsNow) (s .place) (o ∷ os))
-    legal-on [] zero ahead whole sends few more = not-both (sym (ahead .1) ∙ more)
+    legal-on [] zero ahead whole sends few more = absurd (true≢false (sym (ahead .1) ∙ more))
     legal-on [] (suc n) ahead whole sends few more =
         let nop : sendsNow ≡ 0 = ap (λ i. getD (builtWords r) i 0) (sym (add-zero sent)) ∙ sends 0 in
         word-on (o .operands) [] n (heard-ignored w (foundIn s sendsNow) (s .place) o os (s .place .phase) (s .place .next) (ahead .0) tells)
@@ -179,7 +178,7 @@ module _ (w : ℕ) (r : Request) (sent : ℕ) (reader : Reader) (s : State) wher
       → (sent ≤ 21) × Under r (suc sent) reader′ s′ (heard (foundIn s sendsNow) (s .place) (o ∷ os))
   goes-on o os command (legally legal g) tells more =
       (omega (arith, g .few), legal-on o os command legal tells (g .due) (g .waits) (g .ahead) (g .whole) (g .sends) (g .few) more)
-  goes-on o os command (illegally legal g) tells more = not-both (sym (ap done (g .answer)) ∙ more)
+  goes-on o os command (illegally legal g) tells more = absurd (true≢false (sym (ap done (g .answer)) ∙ more))
 
   pub under-on : (words : List Word) → Under r sent reader s words → PlaceTells w (s .place) words → done reader′ ≡ false
       → (sent ≤ 21) × Under r (suc sent) reader′ s′ (heard (foundIn s sendsNow) (s .place) words)
@@ -197,8 +196,8 @@ module _ (w : ℕ) (r : Request) (sent : ℕ) (reader : Reader) (s : State) wher
         whole = sym (append-nil (o .operands)) ∙ whole ∙ rw legal;
         left = λ outcome e i. ap (λ x. atRest (stepped s x .place .phase)) nop ∙ rests-on s (ahead .0);
       }
-  legal-ends o legal [] (suc n) ahead whole sends over = not-both (sym over ∙ ahead .1)
-  legal-ends o legal (x ∷ xs) n ahead whole sends over = not-both (sym over ∙ ahead .1)
+  legal-ends o legal [] (suc n) ahead whole sends over = absurd (true≢false (sym over ∙ ahead .1))
+  legal-ends o legal (x ∷ xs) n ahead whole sends over = absurd (true≢false (sym over ∙ ahead .1))
 
   pub goes-ends : (o : Word) → Goes r sent reader s o → done reader′ ≡ true → Ends r sent reader s o
   goes-ends o (legally legal g) over = legal-ends o legal (g .due) (g .waits) (g .ahead) (g .whole) (g .sends) over
@@ -206,7 +205,7 @@ module _ (w : ℕ) (r : Request) (sent : ℕ) (reader : Reader) (s : State) wher
       record {
         rests = g .rests;
         whole = g .none ∙ rw legal;
-        left = λ outcome e i. not-both (illegal-outcome outcome (sym (g .answer) ∙ e) ∙ i);
+        left = λ outcome e i. absurd (true≢false (illegal-outcome outcome (sym (g .answer) ∙ e) ∙ i));
       }
     where
       outcomeIn : Reader → Outcome

@@ -2,7 +2,7 @@
 use Prim.Native.Nat.{ℕ, zero, suc, _-_, _≤_}
 use native.Mathlib.Omega.{arith}
 use mathlib.Core.Path.{_≡_, refl, sym, ap, _∙_, subst}
-use mathlib.Core.Bool.{true, false, cond}
+use mathlib.Core.Bool.{true, false, cond, true≢false}
 use mathlib.Core.List.{List}
 use lib.Dec.{eqb, leb, ltb}
 use lib.ListN.{getD}
@@ -24,7 +24,7 @@ use Rattle.readings.specs.declared.Reader.the-variants.{First, Second, Closed, 
 use Rattle.readings.specs.Reader.{done}
 use Rattle.requests.specs.Request.{kindOf}
 use Rattle.asked.specs.VisitRequests.{marked}
-use Rattle.asked.specs.Marker.{restNops, illegalAt, lastAt, illegalWord, markWord, markHolds}
+use Rattle.asked.specs.Marker.{nopsToRest, illegalAt, lastAt, illegalWord, markWord, markHolds}
 use Rattle.visit.specs.declared.Stage.{Stage}
 use Rattle.visit.specs.declared.Stage.the-variants.{Marking, Asking, AsRead, NotRead}
 use Rattle.visit.specs.declared.Reason.the-variants.{Late, NotReady}
@@ -37,7 +37,6 @@ use Rattle.round_trip.specs.BroughtToRestLaws.{rest-is-resting}
 use Rattle.joined.specs.Joined.{wordOf}
 use Rattle.asked.specs.RequestAtLaws.{asked-in-range}
 use Rattle.joined.specs.MarkerJoinedLaws.{no-command}
-use Rattle.joined.specs.AskedJoinedLaws.{not-both}
 use Rattle.promises.specs.TakenWords.{Word}
 use Rattle.promises.specs.Environment.{heard}
 use Rattle.promises.specs.Demand3.{lastClosed}
@@ -59,22 +58,22 @@ illegal-rests s t =
     ∙ ap (λ (x : State). x .place .phase) (illegal-taken illegalWord (s .place .next) (sceneOf s) (no-command (standingIn (sceneOf s))))
 
 -- a packet of it takes one off what is to go to rest; its illegal word finds the port at rest, and leaves it so
-mark-leaves : (i : ℕ) {s : State} → Sound s → toRest s ≤ restNops - i → toRest (stepped s (markWord i)) ≤ restNops - suc i
+mark-leaves : (i : ℕ) {s : State} → Sound s → toRest s ≤ nopsToRest - i → toRest (stepped s (markWord i)) ≤ nopsToRest - suc i
 unfolding markWord
 mark-leaves i {s} f few =
-    either (λ word. toRest (stepped s word) ≤ restNops - suc i) (eqb i illegalAt) illegalWord 0
+    either (λ word. toRest (stepped s word) ≤ nopsToRest - suc i) (eqb i illegalAt) illegalWord 0
     (λ e.
     let late : i ≡ 21 = eqb-true i illegalAt e in
     rw (illegal-rests s (at-rest-by f (omega arith))) (omega arith))
     (λ e.
     rw (packet-keeps-w s 0) (omega (arith, nop-takes-one-off (s .board .w) s refl (f .place .phase))))
 
-pub most-to-rest : {s : State} → Sound s → toRest s ≤ restNops
+pub most-to-rest : {s : State} → Sound s → toRest s ≤ nopsToRest
 most-to-rest {s} f = omega (arith, to-go-at-most (s .board .w) (s .place .phase) (f .place .phase), f .board .small)
 
 -- ---- what the visit's stage says of the port and of the last command word
 abbrev pub Stands : Visit → Stage → State → List Word → Type 0
-Stands v (Marking i) s words = toRest s ≤ restNops - i
+Stands v (Marking i) s words = toRest s ≤ nopsToRest - i
 Stands v (Asking zero reader) s words = (reader ≡ First) × (atRest (s .place .phase) ≡ true)
 Stands v (Asking (suc sent) reader) s words = Under (requestNow v) (suc sent) reader s words
 Stands v AsRead s words = Unit {0}
@@ -107,20 +106,20 @@ module _ (w : ℕ) (v : Visit) {s : State} (f : Sound s) (words : List Word) (te
   abbrev wordsAfter : ℕ → List Word
   wordsAfter word = heard (foundIn s word) (s .place) words
 
-  marked-stands : (i : ℕ) → toRest s ≤ restNops - i
+  marked-stands : (i : ℕ) → toRest s ≤ nopsToRest - i
       → StandsNow (visit.heardAt v (Marking i) (replyNow (s .place))) (stepped s (markWord i)) (wordsAfter (markWord i))
   marked-stands i few =
       let s′ = stepped s (markWord i) in
       let later = wordsAfter (markWord i) in
       let f′ = packet-keeps-sound f (markWord i) in
       let less = mark-leaves i f few in
-      either (λ (x : Stage). Stands (onStage v x) x s′ later) (markHolds i (replyNow (s .place))) (cond (ltb i lastAt) (Marking (suc i)) (afterMarker v))
-      (NotRead Late)
+      let to : Stage → Type 0 = λ x. Stands (onStage v x) x s′ later in
+      either to (markHolds i (replyNow (s .place))) (cond (ltb i lastAt) (Marking (suc i)) (afterMarker (v .ends) (v .at))) (NotRead Late)
       (λ e.
-      either (λ (x : Stage). Stands (onStage v x) x s′ later) (ltb i lastAt) (Marking (suc i)) (afterMarker v)
+      either to (ltb i lastAt) (Marking (suc i)) (afterMarker (v .ends) (v .at))
       (λ l. less)
       (λ l.
-      either (λ (x : Stage). Stands (onStage v x) x s′ later) (leb (v .ends) (v .at)) AsRead (Asking 0 First)
+      either to (leb (v .ends) (v .at)) AsRead (Asking 0 First)
       (λ e. tt) (λ e. (refl, at-rest-by f′ (omega (arith, ltb-false i lastAt l))))))
       (λ e. tt)
 
@@ -163,5 +162,5 @@ module _ (w : ℕ) (v : Visit) {s : State} (f : Sound s) (words : List Word) (te
   stands-on (Marking i) on h = marked-stands i h
   stands-on (Asking zero reader) on h = command-stands reader h
   stands-on (Asking (suc sent) reader) on h = asked-stands sent reader h
-  stands-on AsRead on h = not-both on
-  stands-on (NotRead reason) on h = not-both on
+  stands-on AsRead on h = absurd (true≢false on)
+  stands-on (NotRead reason) on h = absurd (true≢false on)

@@ -6,7 +6,7 @@ use mathlib.Core.Path.{_≡_, refl, sym, ap, _∙_, subst}
 use mathlib.Core.Bool.{true, false, cond}
 use mathlib.Core.List.{List, [], _∷_}
 use lib.Dec.{eqb}
-use lib.ListN.{length, getD}
+use lib.ListN.{length}
 use borrow.Author.Tests.{le-leb}
 use Rattle.laws.specs.TestLaws.{by-test, either}
 use Rattle.board.specs.declared.Place.{Place}
@@ -15,8 +15,7 @@ use Rattle.board.specs.State.{State, stateOf}
 use Rattle.step.specs.Step.{replyNow, stepped}
 use Rattle.sound.specs.Sound.{Sound}
 use Rattle.sound.specs.SoundLaws.{packet-keeps-sound, packet-keeps-w}
-use Rattle.building.specs.RequestWords.{builtWords}
-use Rattle.building.specs.RequestWordLaws.{Clear, built-clear}
+use Rattle.round_trip.specs.UnderwayLaws.{sent-clear}
 use Rattle.asked.specs.Marker.{illegalAt, illegalWord, markWord}
 use Rattle.visit.specs.declared.Stage.{Stage}
 use Rattle.visit.specs.declared.Stage.the-variants.{Marking, Asking, AsRead, NotRead}
@@ -40,11 +39,6 @@ use Rattle.visit_closes.specs.TrailStepsLaws.{foundIn, trail-packet}
 use Rattle.visit_closes.specs.VisitStagesLaws.{StandsNow, stands-on}
 
 -- ---- what is sent
-clear-at : (words : List ℕ) (i : ℕ) → Clear words → getD words i 0 ≤ 0xFFFF
-clear-at [] i h = omega arith
-clear-at (x ∷ xs) zero h = h .0
-clear-at (x ∷ xs) (suc i) h = clear-at xs i (h .1)
-
 mark-within : (i : ℕ) → markWord i ≤ 0x1FFFF
 unfolding markWord
 mark-within i = either (λ word. word ≤ 0x1FFFF) (eqb i illegalAt) illegalWord 0 (λ e. omega arith) (λ e. omega arith)
@@ -52,7 +46,7 @@ mark-within i = either (λ word. word ≤ 0x1FFFF) (eqb i illegalAt) illegalWord
 within-by : (v : Visit) (stage : Stage) → wordOf (packetBy v stage) ≤ 0x1FFFF
 within-by v (Marking i) = mark-within i
 within-by v (Asking sent reader) =
-    omega (arith, clear-at (builtWords (requestNow v)) sent (built-clear (requestNow v) (asked-in-range (v .address) (v .at))))
+    omega (arith, sent-clear (requestNow v) sent (asked-in-range (v .address) (v .at)))
 within-by v AsRead = omega arith
 within-by v (NotRead reason) = omega arith
 

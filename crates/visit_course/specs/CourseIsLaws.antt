@@ -1,15 +1,11 @@
 -- What a visit comes to, whole: its registers and its table, what it leaves, and the number of its packets.
 use Prim.Native.Nat.{ℕ, _+_, _*_, _%_, _≤_, _<_}
-use native.Mathlib.Nat.{mul-le-mul-right}
-use native.Mathlib.Omega.{arith}
 use mathlib.Core.Path.{_≡_, ap, subst, _∙_}
-use mathlib.Core.Bool.{Bool, true}
+use mathlib.Core.Bool.{true}
 use mathlib.Core.List.{List, _++_}
 use lib.ListN.{length, getD, take, drop}
 use lib.Seq.{take-append-seam, drop-append-seam, getD-append-add}
-use lib.Dec.{ltb}
-use borrow.Author.Tests.{ltb-true}
-use Rattle.laws.specs.TestLaws.{by-test, either}
+use Rattle.laws.specs.TestLaws.{by-test}
 use Rattle.memory.specs.declared.Size.the-variants.{Long}
 use Rattle.memory.specs.Memory.{valueAt}
 use Rattle.readings.specs.declared.Outcome.{Outcome}
@@ -26,8 +22,8 @@ use Rattle.round_trip.specs.BroughtToRestLaws.{rest-keeps-sound}
 use Rattle.visit_course.specs.VisitCourse.{Course, behindMarker, courseFrom, courseOf}
 use Rattle.visit_course.specs.TableRead.{tableRead, longwordsThere}
 use Rattle.visit_course.specs.RegistersRead.{registersRead, csrCleared}
-use Rattle.visit_course.specs.PacketsStated.{packetsStated, registersPackets}
-use Rattle.visit_course.specs.TableReadLaws.{table-is, table-most, table-holds}
+use Rattle.visit_course.specs.PacketsStated.{packetsStated}
+use Rattle.visit_course.specs.TableReadLaws.{table-is, table-holds}
 use Rattle.visit_course.specs.TablePacketsLaws.{table-packets}
 use Rattle.visit_course.specs.RegistersReadLaws.{sceneAsked, registers-notes}
 
@@ -96,20 +92,3 @@ module _ {address longwords : ℕ} {found : Scene} {c : Course} (is : CourseIs a
   longword-at whole k other less there =
       rw (is .outcomes, ← registers-counted (found .board))
       (getD-append-add registers table k other ∙ table-holds address (found .memory) whole longwords .word k other less there)
-
--- ---- how many packets at most
-packets-within : (w : ℕ) (halted : Bool) (there longwords : ℕ) → w ≤ 15 → there ≤ longwords → longwords ≤ 65536
-    → packetsStated w halted there longwords ≤ 1187031
-packets-within w halted there longwords small less most =
-    let product : (3 + w) * there ≤ 18 * there = mul-le-mul-right there (omega arith) in
-    let first : registersPackets w halted ≤ 679 =
-    either (λ (n : ℕ). n + 3 ≤ 679) halted (16 * 3 + 10 * (5 + w)) (26 * 26) (λ h. omega arith) (λ h. omega arith) in
-    by-test (ltb there longwords) (λ t. let one-short = ltb-true there longwords t in rw t (omega arith)) (λ t. rw t (omega arith))
-
-pub course-packets-within : (address longwords : ℕ) → tableInRange address longwords ≡ true → (s : State) → Sound s
-    → courseOf address longwords s .packets ≤ 1187031
-course-packets-within address longwords range s f =
-    let found = restScene s in
-    rw (course-is address longwords range s f .packets)
-    (packets-within (found .board .w) (found .board .status .halted) (longwordsThere address longwords (length (found .memory))) longwords
-    (rest-keeps-sound restBudget s f .board .small) (omega arith) (table-most address longwords range))

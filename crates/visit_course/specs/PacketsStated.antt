@@ -2,7 +2,7 @@
 use Prim.Native.Nat.{ℕ, _+_, _*_, _/_}
 use mathlib.Core.Bool.{Bool, cond}
 use lib.Dec.{ltb}
-use Rattle.visit_course.specs.VisitCourse.{markerPackets}
+use Rattle.asked.specs.Marker.{markerPackets}
 use Rattle.visit_course.specs.TableRead.{longwordsAsked}
 
 -- halted: a command word and two result words each, of a control register two operand words and the waits too;

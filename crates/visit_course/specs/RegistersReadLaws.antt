@@ -19,9 +19,10 @@ use Rattle.readings.specs.declared.Outcome.{Outcome}
 use Rattle.readings.specs.declared.Outcome.the-variants.{Value, Illegal}
 use Rattle.pod_laws.specs.MeantCommandLaws.{decoded-as-meant}
 use Rattle.asked.specs.VisitRequests.{registersAsked, registerRequest, requestAt, inTable, marked}
+use Rattle.asked.specs.Marker.{markerPackets}
 use Rattle.round_trip.specs.Meaning.{Scene}
 use Rattle.round_trip.specs.RoundTrip.{unchained, legalThere, packetsThere}
-use Rattle.visit_course.specs.VisitCourse.{Course, markerPackets, noting, courseFrom}
+use Rattle.visit_course.specs.VisitCourse.{Course, noting, courseFrom}
 use Rattle.visit_course.specs.PacketsStated.{processorPackets, registersPackets}
 use Rattle.visit_course.specs.RegistersRead.{valuesFrom, processorRead, registersRead, csrCleared}
 use Rattle.visit_course.specs.TableCourseLaws.{onTable}

@@ -16,17 +16,18 @@ use Rattle.requests.specs.declared.Request.the-variants.{Read, Dump}
 use Rattle.readings.specs.declared.Outcome.{Outcome}
 use Rattle.readings.specs.declared.Outcome.the-variants.{Value, BusError}
 use Rattle.asked.specs.VisitRequests.{registersAsked, begins, addressAt, tableRequest, requestAt, inTable, marked}
+use Rattle.asked.specs.Marker.{markerPackets}
 use Rattle.round_trip.specs.Meaning.{Scene}
 use Rattle.round_trip.specs.RoundTrip.{unchained, legalThere, packetsThere}
-use Rattle.visit_course.specs.VisitCourse.{Course, nothingMore, markerPackets, behindMarker, behind, noting, courseFrom}
+use Rattle.visit_course.specs.VisitCourse.{Course, nothingMore, behindMarker, behind, noting, courseFrom}
 use Rattle.visit_course.specs.CourseStepLaws.{ComesTo, courseBehind, course-step}
 
 -- ---- a READ and a DUMP
-read-legal : (a : ℕ) (s : Scene) → legalThere (Read Long a) s ≡ true
+pub read-legal : (a : ℕ) (s : Scene) → legalThere (Read Long a) s ≡ true
 unfolding decoded decodedWord
 read-legal a s = by-test (s .board .status .halted) (λ h. rw h) (λ h. rw h)
 
-dump-legal : (s : Scene) → s .chain ≡ Dumping → legalThere (Dump Long) s ≡ true
+pub dump-legal : (s : Scene) → s .chain ≡ Dumping → legalThere (Dump Long) s ≡ true
 unfolding decoded decodedWord
 dump-legal s e = by-test (s .board .status .halted) (λ h. rw (h, e)) (λ h. rw (h, e))
 

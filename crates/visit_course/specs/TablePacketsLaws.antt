@@ -11,13 +11,15 @@ use Rattle.laws.specs.TestLaws.{by-test}
 use Rattle.memory.specs.declared.Size.the-variants.{Long}
 use Rattle.memory.specs.Memory.{present}
 use Rattle.asked.specs.VisitRequests.{registersAsked, begins}
+use Rattle.asked.specs.Marker.{markerPackets}
 use Rattle.visit.specs.Visit.{tableInRange}
+use Rattle.visit.specs.VisitLaws.{table-whole, table-within}
 use Rattle.round_trip.specs.Meaning.{Scene}
-use Rattle.visit_course.specs.VisitCourse.{markerPackets, courseFrom}
+use Rattle.visit_course.specs.VisitCourse.{courseFrom}
 use Rattle.visit_course.specs.TableRead.{longwordsThere, longwordsAsked}
 use Rattle.visit_course.specs.PacketsStated.{blocks, tablePackets}
 use Rattle.visit_course.specs.TableCourseLaws.{InBlock, sceneRead, onTable, longwordPackets, end-marked, there-step, missing-step}
-use Rattle.visit_course.specs.TableReadLaws.{table-whole, table-within, there-one, there-none}
+use Rattle.visit_course.specs.TableReadLaws.{there-one, there-none}
 
 -- the packets of so many longwords from number k on, and of the markers before their blocks
 abbrev packetsFromLongword : ℕ → ℕ → ℕ → ℕ → ℕ

@@ -3,21 +3,21 @@ use Prim.Native.Nat.{ℕ, zero, suc, _+_, _*_, _%_, _^_, _≤_, _<_}
 use native.Mathlib.Nat.{add-zero, zero-add}
 use native.Mathlib.Omega.{arith}
 use mathlib.Core.Path.{_≡_, refl, ap}
-use mathlib.Core.Bool.{true, false, true≢false, _&&_}
+use mathlib.Core.Bool.{true, false, true≢false}
 use mathlib.Core.List.{List}
-use lib.Dec.{eqb, leb, ltb, leb·suc-suc}
+use lib.Dec.{ltb, leb·suc-suc}
 use lib.ListN.{length, getD}
-use borrow.Author.Tests.{eqb-true, leb-true, leb-false, le-leb, lt-leb, lt-ltb, le-ltb}
-use Rattle.laws.specs.TestLaws.{by-test, both-hold}
+use borrow.Author.Tests.{leb-true, leb-false, le-leb, lt-ltb, le-ltb}
+use Rattle.laws.specs.TestLaws.{by-test}
 use Rattle.memory.specs.declared.Size.the-variants.{Long}
 use Rattle.memory.specs.Memory.{aligned, present, valueAt}
 use Rattle.board.specs.declared.Chain.the-variants.{Off}
 use Rattle.readings.specs.declared.Outcome.{Outcome}
 use Rattle.readings.specs.declared.Outcome.the-variants.{Value, BusError}
-use Rattle.asked.specs.VisitRequests.{registersAsked, marked}
+use Rattle.asked.specs.VisitRequests.{registersAsked}
 use Rattle.visit.specs.Visit.{tableInRange}
+use Rattle.visit.specs.VisitLaws.{table-whole, table-within}
 use Rattle.round_trip.specs.Meaning.{Scene}
-use Rattle.round_trip.specs.RoundTrip.{unchained}
 use Rattle.visit_course.specs.VisitCourse.{Course, courseFrom}
 use Rattle.visit_course.specs.TableRead.{tableFrom, tableRead, longwordsThere, longwordsAsked}
 use Rattle.visit_course.specs.TableCourseLaws.{InBlock, sceneRead, onTable, end-marked, there-step, missing-step}
@@ -46,43 +46,13 @@ table-comes (suc left) address k j s e whole within small follows =
     (λ t. rw (missing-step address left k j s e whole (omega arith) follows t) (record { outcomes = rw t; board = refl; memory = refl; chain = refl }))
 
 module _ (address longwords : ℕ) (range : tableInRange address longwords ≡ true) where
-  parts : (eqb (address % 4) 0 ≡ true) × ((leb longwords 65536 && leb (address + 4 * longwords) (2 ^ 32)) ≡ true)
-  parts = both-hold (eqb (address % 4) 0) (leb longwords 65536 && leb (address + 4 * longwords) (2 ^ 32)) range
-
-  pub table-whole : address % 4 ≡ 0
-  table-whole = eqb-true (address % 4) 0 (parts .0)
-
-  sizes : (leb longwords 65536 ≡ true) × (leb (address + 4 * longwords) (2 ^ 32) ≡ true)
-  sizes = both-hold (leb longwords 65536) (leb (address + 4 * longwords) (2 ^ 32)) (parts .1)
-
-  pub table-most : longwords ≤ 65536
-  table-most = leb-true longwords 65536 (sizes .0)
-
-  pub table-within : address + 4 * longwords ≤ 2 ^ 32
-  table-within = leb-true (address + 4 * longwords) (2 ^ 32) (sizes .1)
-
   -- with the marker before it
   pub table-is : (s : Scene) → length (s .memory) ≤ 65536 → TableComes longwords address 0 s (onTable longwords address registersAsked s)
   table-is s small =
-      let within = table-within in
-      table-comes longwords address 0 registersAsked s refl table-whole (omega arith) small (λ b. absurd (true≢false b))
-
-  -- where a marker has ended the chain
-  pub table-course : (s : Scene) → length (s .memory) ≤ 65536 → s .chain ≡ Off
-      → TableComes longwords address 0 s (courseFrom longwords address registersAsked s)
-  unfolding marked
-  table-course s small e =
-      let same : unchained s ≡ s = rw e in
-      let is = rw same at (table-is s small) in
-      record { outcomes = is .outcomes; board = is .board; memory = is .memory; chain = is .chain }
+      let within = table-within address longwords range in
+      table-comes longwords address 0 registersAsked s refl (table-whole address longwords range) (omega arith) small (λ b. absurd (true≢false b))
 
 -- ---- the longwords
--- one that is there has all before it there
-pub there-before : (address : ℕ) (m : List ℕ) (i k : ℕ) → address % 4 ≡ 0 → i ≤ k → present m Long (address + 4 * k) ≡ true
-    → present m Long (address + 4 * i) ≡ true
-there-before address m i k whole le t =
-    let there : aligned Long (address + 4 * k) + 4 ≤ length m = leb-true _ _ t in le-leb (aligned Long (address + 4 * i) + 4) (length m) (omega arith)
-
 pub record TableIs (address longwords : ℕ) (m : List ℕ) : Type 0 where
   -- as many as are asked for
   pub count : length (tableRead address longwords m) ≡ longwordsAsked (longwordsThere address longwords (length m)) longwords
@@ -99,9 +69,6 @@ pub record TableIs (address longwords : ℕ) (m : List ℕ) : Type 0 where
 module _ (address : ℕ) (m : List ℕ) (whole : address % 4 ≡ 0) where
   here : (k : ℕ) → address + 4 * k + 4 ≤ length m → present m Long (address + 4 * k) ≡ true
   here k h = le-leb (aligned Long (address + 4 * k) + 4) (length m) (omega arith)
-
-  not-here : (k : ℕ) → length m < address + 4 * k + 4 → present m Long (address + 4 * k) ≡ false
-  not-here k h = lt-leb (aligned Long (address + 4 * k) + 4) (length m) (omega arith)
 
   word-of : (left i k : ℕ) (other : Outcome) → k < left → address + 4 * (i + k) + 4 ≤ length m
       → getD (tableFrom left address i m) k other ≡ Value (valueAt m Long (address + 4 * (i + k)))

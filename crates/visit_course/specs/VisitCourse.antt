@@ -6,7 +6,7 @@ use Rattle.board.specs.State.{State}
 use Rattle.asked.specs.VisitRequests.{registersAsked, requestAt, inTable, marked}
 use Rattle.requests.specs.declared.Request.{Request}
 use Rattle.readings.specs.declared.Outcome.{Outcome}
-use Rattle.asked.specs.Marker.{lastAt}
+use Rattle.asked.specs.Marker.{markerPackets}
 use Rattle.visit.specs.Visit.{isIllegal, isBusError}
 use Rattle.round_trip.specs.Meaning.{Scene, meaning}
 use Rattle.round_trip.specs.RoundTrip.{unchained, legalThere, outcomeThere, packetsThere}
@@ -19,9 +19,6 @@ pub record Course : Type 0 where
 
 abbrev pub nothingMore : Scene → Course
 nothingMore s = record { outcomes = []; packets = 0; leaves = s }
-
-abbrev pub markerPackets : ℕ
-markerPackets = suc lastAt
 
 -- a marker first: its illegal word ends the chain, and it leaves all else
 abbrev pub behindMarker : (Scene → Course) → Scene → Course

@@ -70,19 +70,20 @@ module _ (v : Visit) where
       (λ g. read-anew sent (readerAfter v reader reply)))
       (λ f. tt))
 
-  pub after-marker : (P : Stage → Type 0) → P AsRead → P (Asking 0 First) → P (afterMarker v)
+  pub after-marker : (P : Stage → Type 0) → P AsRead → P (Asking 0 First) → P (afterMarker (v .ends) (v .at))
   after-marker P read asking = either P (leb (v .ends) (v .at)) AsRead (Asking 0 First) (λ e. read) (λ e. asking)
 
   -- what holds of each stage that a reply to a packet of a marker can lead to
   pub marking-leads : (P : Stage → Type 0) (m reply : ℕ) → v .stage ≡ Marking m
       → (markHolds m reply ≡ true → m < lastAt → P (Marking (suc m)))
-      → (markHolds m reply ≡ true → lastAt ≤ m → P (afterMarker v))
+      → (markHolds m reply ≡ true → lastAt ≤ m → P (afterMarker (v .ends) (v .at)))
       → P (NotRead Late) → P (NotRead WordTooLarge) → P (heard v reply .stage)
   marking-leads P m reply e further last late large =
       rw (heard-marking v reply m e)
       (either (λ (x : Visit). P (x .stage)) (leb reply 0x1FFFF) (onStage v (markStage v m reply)) (tooLarge v reply)
-      (λ f. either P (markHolds m reply) (cond (ltb m lastAt) (Marking (suc m)) (afterMarker v)) (NotRead Late)
-      (λ g. either P (ltb m lastAt) (Marking (suc m)) (afterMarker v) (λ h. further g (ltb-true m lastAt h)) (λ h. last g (ltb-false m lastAt h)))
+      (λ f. either P (markHolds m reply) (cond (ltb m lastAt) (Marking (suc m)) (afterMarker (v .ends) (v .at))) (NotRead Late)
+      (λ g. either P (ltb m lastAt) (Marking (suc m)) (afterMarker (v .ends) (v .at))
+      (λ h. further g (ltb-true m lastAt h)) (λ h. last g (ltb-false m lastAt h)))
       (λ g. late))
       (λ f. large))
 
@@ -94,12 +95,13 @@ markAt (Asking sent reader) = 0
 markAt AsRead = 0
 markAt (NotRead reason) = 0
 
-anew-no-last : (stage : Stage) → Anew stage → markAt stage ≡ lastAt → ⊥
-anew-no-last (Marking zero) h e = omega arith
-anew-no-last (Marking (suc m)) h e = absurd h
-anew-no-last (Asking sent reader) h e = omega arith
-anew-no-last AsRead h e = absurd h
-anew-no-last (NotRead reason) h e = omega arith
+-- it is the first of it
+pub anew-marks : (stage : Stage) → Anew stage → markAt stage ≡ 0
+anew-marks (Marking zero) h = refl
+anew-marks (Marking (suc i)) h = absurd h
+anew-marks (Asking sent reader) h = refl
+anew-marks AsRead h = refl
+anew-marks (NotRead reason) h = refl
 
 anew-not-read : (stage : Stage) → Anew stage → stage ≡ AsRead → ⊥
 anew-not-read (Marking m) h e = true≢false (sym (ap isAsRead e))
@@ -116,24 +118,26 @@ unfolding markHolds
 wanted-complete reply e = eqb-true reply complete e
 
 module _ (v : Visit) (reply : ℕ) where
-  -- a marker's last packet is next only after 1FFFF came in for the packet before it
-  pub passed-by : heard v reply .stage ≡ Marking lastAt → (v .stage ≡ Marking (suc illegalAt)) × (reply ≡ illegal)
+  -- a further packet of a marker is next only after the one before it had the reply that it must have
+  pub marked-by : (m : ℕ) → heard v reply .stage ≡ Marking (suc m) → (v .stage ≡ Marking m) × (markHolds m reply ≡ true)
   unfolding heard
-  passed-by now = by-stage (v .stage) refl
+  marked-by m now = by-stage (v .stage) refl
     where
-      by-stage : (stage : Stage) → v .stage ≡ stage → (stage ≡ Marking (suc illegalAt)) × (reply ≡ illegal)
-      by-stage (Marking m) e =
-          marking-leads v (λ stage. stage ≡ Marking lastAt → (Marking m ≡ Marking (suc illegalAt)) × (reply ≡ illegal)) m reply e
-          (λ holds less at.
-          let it : m ≡ suc illegalAt = omega (arith, ap markAt at) in
-          (ap Marking it, wanted-illegal reply (rw it at holds)))
-          (λ holds more. after-marker v (λ stage. stage ≡ Marking lastAt → (Marking m ≡ Marking (suc illegalAt)) × (reply ≡ illegal))
+      by-stage : (stage : Stage) → v .stage ≡ stage → (stage ≡ Marking m) × (markHolds m reply ≡ true)
+      by-stage (Marking i) e =
+          marking-leads v (λ stage. stage ≡ Marking (suc m) → (Marking i ≡ Marking m) × (markHolds m reply ≡ true)) i reply e
+          (λ holds less at. let it : i ≡ m = omega (arith, ap markAt at) in (ap Marking it, rw it at holds))
+          (λ holds more. after-marker v (λ stage. stage ≡ Marking (suc m) → (Marking i ≡ Marking m) × (markHolds m reply ≡ true))
           (λ at. absurd (omega (arith, ap markAt at))) (λ at. absurd (omega (arith, ap markAt at))))
           (λ at. absurd (omega (arith, ap markAt at))) (λ at. absurd (omega (arith, ap markAt at)))
           now
-      by-stage (Asking sent reader) e = absurd (anew-no-last (heard v reply .stage) (asked-anew v sent reader reply e) (ap markAt now))
+      by-stage (Asking sent reader) e = absurd (omega (arith, anew-marks (heard v reply .stage) (asked-anew v sent reader reply e), ap markAt now))
       by-stage AsRead e = absurd (omega (arith, ap markAt (rw e at now)))
       by-stage (NotRead reason) e = absurd (omega (arith, ap markAt (rw e at now)))
+
+  -- its last is next only after 1FFFF came in for the packet before it
+  pub passed-by : heard v reply .stage ≡ Marking lastAt → (v .stage ≡ Marking (suc illegalAt)) × (reply ≡ illegal)
+  passed-by now = let before = marked-by (suc illegalAt) now in (before .0, wanted-illegal reply (before .1))
 
   -- a visit ends as read only after 0FFFF came in for a marker's last packet
   pub read-by : (markAt (v .stage) ≤ lastAt) → (v .stage ≡ AsRead → ⊥) → heard v reply .stage ≡ AsRead → (v .stage ≡ Marking lastAt) × (reply ≡ complete)
