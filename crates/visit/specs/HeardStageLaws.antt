@@ -3,7 +3,7 @@
 use Prim.Native.Nat.{ℕ, zero, suc, _≤_, _<_}
 use native.Mathlib.Omega.{arith}
 use mathlib.Core.Path.{_≡_, refl, ap, sym}
-use mathlib.Core.Bool.{true, cond, _||_, true≢false}
+use mathlib.Core.Bool.{true, false, cond, _||_, true≢false}
 use lib.Dec.{eqb, leb, ltb}
 use borrow.Author.Tests.{ltb-true, ltb-false, eqb-true}
 use Rattle.laws.specs.TestLaws.{either}
@@ -11,6 +11,7 @@ use Rattle.command.specs.Reply.{complete, illegal}
 use Rattle.readings.specs.declared.Outcome.{Outcome}
 use Rattle.readings.specs.declared.Reader.{Reader}
 use Rattle.readings.specs.declared.Reader.the-variants.{First, Second, Closed, Bad}
+use Rattle.readings.specs.Reader.{done}
 use Rattle.asked.specs.VisitRequests.{marked}
 use Rattle.asked.specs.Marker.{illegalAt, lastAt, markHolds}
 use Rattle.visit.specs.declared.Reason.the-variants.{Late, NotReady, WordTooLarge, ImpossibleReply}
@@ -35,11 +36,11 @@ module _ (v : Visit) (reply : ℕ) where
   unfolding heard
   heard-asking sent reader e = rw e
 
--- ---- a request under way leads to no further packet of a marker, and to no end as read
+-- ---- a request under way leads to no further packet of a marker, to no end as read, and to a reader that waits
 abbrev pub Anew : Stage → Type 0
 Anew (Marking zero) = Unit {0}
 Anew (Marking (suc m)) = ⊥
-Anew (Asking sent reader) = Unit {0}
+Anew (Asking sent reader) = done reader ≡ false
 Anew AsRead = ⊥
 Anew (NotRead reason) = Unit {0}
 
@@ -52,12 +53,12 @@ module _ (v : Visit) where
       either (λ (x : Visit). Anew (x .stage)) (notable o (v .at))
       (record { address = v .address; ends = ends; at = at; packets = counted (v .packets); stage = stageAfter o ends at })
       (onStage v (NotRead ImpossibleReply))
-      (λ e. either Anew (isIllegal o || marked ends at) (Marking 0) (Asking 0 First) (λ f. tt) (λ f. tt)) (λ e. tt)
+      (λ e. either Anew (isIllegal o || marked ends at) (Marking 0) (Asking 0 First) (λ f. tt) (λ f. refl)) (λ e. tt)
 
   read-anew : (sent : ℕ) (reader : Reader) → Anew (readBy v sent reader .stage)
-  read-anew sent First = either Anew (ltb sent patience) (Asking (suc sent) First) (NotRead NotReady) (λ e. tt) (λ e. tt)
+  read-anew sent First = either Anew (ltb sent patience) (Asking (suc sent) First) (NotRead NotReady) (λ e. refl) (λ e. tt)
   read-anew sent (Second upper) =
-      either Anew (ltb sent patience) (Asking (suc sent) (Second upper)) (Asking sent (Second upper)) (λ e. tt) (λ e. tt)
+      either Anew (ltb sent patience) (Asking (suc sent) (Second upper)) (Asking sent (Second upper)) (λ e. refl) (λ e. refl)
   read-anew sent (Closed o) = closed-anew o
   read-anew sent (Bad ground) = tt
 
@@ -66,7 +67,7 @@ module _ (v : Visit) where
       rw (heard-asking v reply sent reader e)
       (either (λ (x : Visit). Anew (x .stage)) (leb reply 0x1FFFF) (askStage v sent reader reply) (tooLarge v reply)
       (λ f. either (λ (x : Visit). Anew (x .stage)) (eqb sent 0) (onStage v (commandStage reply)) (readBy v sent (readerAfter v reader reply))
-      (λ g. either Anew (eqb reply complete) (Asking 1 First) (NotRead Late) (λ h. tt) (λ h. tt))
+      (λ g. either Anew (eqb reply complete) (Asking 1 First) (NotRead Late) (λ h. refl) (λ h. tt))
       (λ g. read-anew sent (readerAfter v reader reply)))
       (λ f. tt))
 

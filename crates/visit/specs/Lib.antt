@@ -6,3 +6,6 @@ pub mod VisitUnique
 pub mod VisitEnds
 pub mod VisitEndsLaws
 pub mod HeardStageLaws
+pub mod ReadMarked
+pub mod ReadMarkedLaws
+pub mod ReasonLaws
