@@ -6,4 +6,5 @@ pub mod JoinedLaws
 pub mod MarkerJoinedLaws
 pub mod RequestJoinedLaws
 pub mod VisitReads
+pub mod VisitHands
 pub mod VisitReadsLaws

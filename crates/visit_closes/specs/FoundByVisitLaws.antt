@@ -13,7 +13,9 @@ use Rattle.asked.specs.VisitRequests.{registersAsked}
 use Rattle.visit.specs.Visit.{isOver, tableInRange}
 use Rattle.joined.specs.Joined.{Joined, packetNow, onward, joined}
 use Rattle.joined.specs.VisitReads.{startsAt, VisitReads}
+use Rattle.joined.specs.VisitHands.{VisitHands}
 use Rattle.joined.specs.VisitReadsLaws.{visit-reads}
+use Rattle.joined.specs.HandedJoinedLaws.{visit-hands}
 use Rattle.late_replies.specs.LateReplies.{Begins}
 use Rattle.late_replies.specs.LateRepliesLaws.{visit-begins}
 use Rattle.promises.specs.Machine.{standIn}
@@ -61,6 +63,10 @@ module _ (w : ℕ) (small : w ≤ 15) (history : List Call) (m : Lent) (limit : 
     -- It ends as read, with what is meant there.
     pub visit-reads-there : tableInRange address longwords ≡ true → registersAsked + longwords ≤ length notes → VisitReads address longwords notes found
     visit-reads-there range room = visit-reads address longwords notes found found-sound range room
+
+    -- The registers and the longwords that the port comes to rest with are handed over.
+    pub visit-hands-there : tableInRange address longwords ≡ true → registersAsked + longwords ≤ length notes → VisitHands address longwords notes found
+    visit-hands-there range room = visit-hands address longwords notes found found-sound range room
 
     -- What is said of replies that come late is said of it, whatever was replied before.
     pub visit-begins-there : (before : List ℕ) → Begins (record { joined = startsAt address longwords notes found; replies = before })

@@ -1,9 +1,10 @@
 -- What a visit comes to, whole: its registers and its table, what it leaves, and the number of its packets.
 use Prim.Native.Nat.{ℕ, _+_, _*_, _%_, _≤_, _<_}
+use native.Mathlib.Omega.{arith}
 use mathlib.Core.Path.{_≡_, ap, subst, _∙_}
 use mathlib.Core.Bool.{true}
 use mathlib.Core.List.{List, _++_}
-use lib.ListN.{length, getD, take, drop}
+use lib.ListN.{length, getD, take, drop, length-append, List·getD-append}
 use lib.Seq.{take-append-seam, drop-append-seam, getD-append-add}
 use Rattle.laws.specs.TestLaws.{by-test}
 use Rattle.memory.specs.declared.Size.the-variants.{Long}
@@ -20,7 +21,7 @@ use Rattle.round_trip.specs.Meaning.{Scene}
 use Rattle.round_trip.specs.BroughtToRest.{restBudget, restScene}
 use Rattle.round_trip.specs.BroughtToRestLaws.{rest-keeps-sound}
 use Rattle.visit_course.specs.VisitCourse.{Course, behindMarker, courseFrom, courseOf}
-use Rattle.visit_course.specs.TableRead.{tableRead, longwordsThere}
+use Rattle.visit_course.specs.TableRead.{tableRead, longwordsThere, longwordsAsked}
 use Rattle.visit_course.specs.RegistersRead.{registersRead, csrCleared}
 use Rattle.visit_course.specs.PacketsStated.{packetsStated}
 use Rattle.visit_course.specs.TableReadLaws.{table-is, table-holds}
@@ -86,9 +87,21 @@ module _ {address longwords : ℕ} {found : Scene} {c : Course} (is : CourseIs a
       ap (λ (os : List Outcome). drop registersAsked os) (is .outcomes)
       ∙ subst (λ (n : ℕ). drop n (registers ++ table) ≡ table) (registers-counted (found .board)) (drop-append-seam registers table)
 
+  -- so result j is that of the register, and the one that many behind the registers that of the longword
+  pub register-at : (j : ℕ) (other : Outcome) → j < registersAsked → getD (c .outcomes) j other ≡ getD (registersRead (found .board)) j other
+  register-at j other less = rw (is .outcomes) (List·getD-append registers table other j (omega (arith, registers-counted (found .board))))
+
+  pub table-at : (k : ℕ) (other : Outcome) → getD (c .outcomes) (registersAsked + k) other ≡ getD (tableRead address longwords (found .memory)) k other
+  table-at k other = rw (is .outcomes, ← registers-counted (found .board)) (getD-append-add registers table k other)
+
   -- "word k is the longword of memory at address + 4k"
   pub longword-at : address % 4 ≡ 0 → (k : ℕ) (other : Outcome) → k < longwords → address + 4 * k + 4 ≤ length (found .memory)
       → getD (c .outcomes) (registersAsked + k) other ≡ Value (valueAt (found .memory) Long (address + 4 * k))
-  longword-at whole k other less there =
-      rw (is .outcomes, ← registers-counted (found .board))
-      (getD-append-add registers table k other ∙ table-holds address (found .memory) whole longwords .word k other less there)
+  longword-at whole k other less there = table-at k other ∙ table-holds address (found .memory) whole longwords .word k other less there
+
+  -- a result for each register and for each longword asked
+  pub results-counted : address % 4 ≡ 0
+      → length (c .outcomes) ≡ registersAsked + longwordsAsked (longwordsThere address longwords (length (found .memory))) longwords
+  results-counted whole =
+      ap length (is .outcomes) ∙ length-append registers table
+      ∙ rw (registers-counted (found .board), table-holds address (found .memory) whole longwords .count)
