@@ -1,2 +1,4 @@
+pub mod Ascii
 pub mod TestLaws
+pub mod PlaceLaws
 pub mod StoreLaws

@@ -1,11 +1,11 @@
 -- Laws of the lister's lines in one: item by item, and the words of a trace that is listed.
-use Prim.Native.Nat.{ℕ, suc, _+_, _*_, _/_, _≤_, _<_}
+use Prim.Native.Nat.{ℕ, _+_, _*_, _/_, _≤_, _<_}
 use mathlib.Core.Path.{_≡_, refl, ap, sym, _∙_}
 use mathlib.Core.List.{List, [], _∷_, _++_}
 use native.Mathlib.Omega.{arith}
-use native.Mathlib.Numerals.{add-one}
 use lib.ListN.{length, getD, take, drop, length-append, length-drop}
-use lib.Seq.{drop-cons, take-at}
+use lib.Seq.{take-at}
+use Rattle.laws.specs.PlaceLaws.{from-here}
 use Rattle.grounds.specs.declared.Ground.{Ground}
 use Rattle.trace.specs.declared.Listing.{Listing}
 use Rattle.trace.specs.declared.Listing.the-variants.{Items, Refused}
@@ -22,9 +22,8 @@ use Rattle.listed.specs.Listed.{itemsText, toldText, listedText}
 
 two-on : (words : List ℕ) (i : ℕ) → i + 1 < length words → drop i words ≡ getD words i 0 ∷ getD words (i + 1) 0 ∷ drop (i + 2) words
 two-on words i h =
-    let e : i + 2 ≡ suc (i + 1) = omega arith in
-    drop-cons words i 0 (omega arith)
-    ∙ rw (← add-one i, e) (ap (λ (more : List ℕ). getD words i 0 ∷ more) (drop-cons words (i + 1) 0 h))
+    let e : i + 1 + 1 ≡ i + 2 = omega arith in
+    rw (from-here words i (omega arith), from-here words (i + 1) h, e)
 
 -- the items from one of them on
 pub items-on : (words : List ℕ) (k : ℕ) → k < length words / 2

@@ -3,15 +3,11 @@ use Prim.Native.Nat.{ℕ, _+_, _≤_, _<_}
 use mathlib.Core.Path.{_≡_, refl, ap}
 use mathlib.Core.Bool.{Bool, true, false, _&&_}
 use mathlib.Core.List.{List, [], _∷_}
-use native.Mathlib.Numerals.{add-one}
 use lib.Dec.{eqb}
 use lib.ListN.{length, getD, drop, drop-of-length-le}
-use lib.Seq.{drop-cons}
 use borrow.Author.Tests.{eq-eqb, ne-eqb, eqb-true}
+use Rattle.laws.specs.PlaceLaws.{from-here}
 use Rattle.morning_page.specs.MorningPage.{same}
-
-from-here : (bytes : List ℕ) (i : ℕ) → i < length bytes → drop i bytes ≡ getD bytes i 0 ∷ drop (i + 1) bytes
-from-here bytes i h = rw (add-one, drop-cons bytes i 0)
 
 pub same-goes-on : (word name : List ℕ) (i : ℕ) → i < length word → i < length name → getD word i 0 ≡ getD name i 0
     → same (drop i word) (drop i name) ≡ same (drop (i + 1) word) (drop (i + 1) name)

@@ -1,12 +1,11 @@
 -- Text put into a lent buffer (the desk's language): what stands in the buffer afterwards, and the place after the text.
 use Prim.Native.Nat.{ℕ, _+_, min, max}
-use Prim.Native.Char.{code}
-use Prim.Native.String.{String, [] as none, _∷_ as _then_}
 use mathlib.Core.Path.{_≡_}
 use mathlib.Core.Bool.{Bool, cond}
-use mathlib.Core.List.{List, [], _∷_}
+use mathlib.Core.List.{List}
 use lib.ListN.{length}
 use lib.Seq.{sets}
+pub use Rattle.laws.specs.Ascii.{ascii}
 
 -- the buffer with a text from a place on; what lies beyond the buffer's end is left out, and all other bytes stay
 abbrev pub written : List ℕ → ℕ → List ℕ → List ℕ
@@ -20,11 +19,6 @@ endOf at count room = max at (min (at + count) room)
 pub record Puts (before : List ℕ) (at : ℕ) (text after : List ℕ) (end : ℕ) : Type 0 where
   pub bytes : after ≡ written before at text
   pub place : end ≡ endOf at (length text) (length before)
-
--- the bytes of a text in ASCII
-abbrev pub ascii : String → List ℕ
-ascii none = []
-ascii (c then rest) = code c ∷ ascii rest
 
 -- "flags 0 or 1"
 abbrev pub flagText : Bool → List ℕ

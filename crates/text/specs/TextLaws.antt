@@ -5,10 +5,9 @@ use mathlib.Core.Bool.{Bool, true, false}
 use mathlib.Core.List.{List, [], _∷_, _++_}
 use native.Mathlib.Omega.{arith}
 use native.Mathlib.Nat.{zero-add}
-use native.Mathlib.Numerals.{add-one}
 use lib.Dec.{leb}
-use lib.ListN.{length, take, drop, getD, length-append, length-take, take-append-drop, drop-of-length-le}
-use lib.Seq.{drop-cons, sets, sets-eq, length-sets, set-out, take-at, take-all}
+use lib.ListN.{length, take, drop, length-append, length-take, take-append-drop, drop-of-length-le}
+use lib.Seq.{sets, sets-eq, length-sets, set-out, take-at, take-all}
 use borrow.Author.Tests.{leb-true, leb-false}
 use Rattle.laws.specs.StoreLaws.{sets-append}
 use Rattle.text.specs.Text.{written, endOf, Puts}
@@ -61,10 +60,6 @@ rest-remains r p after end q = r after end (p then q)
 
 pub none-remains : {b w c : List ℕ} {at to : ℕ} → Remains b at w c to [] → Puts b at w c to
 none-remains {b} {w} {c} {at} {to} r = r c to (nothing c to)
-
--- a part from one of its bytes on
-pub part-on : (part : List ℕ) (i : ℕ) → i < length part → drop i part ≡ (getD part i 0 ∷ []) ++ drop (i + 1) part
-part-on part i h = rw (add-one, drop-cons part i 0 h)
 
 -- from the front on, the text ends within the buffer
 pub ends-within : {b a t : List ℕ} {end : ℕ} → Puts b 0 t a end → end ≤ length b

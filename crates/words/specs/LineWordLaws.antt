@@ -1,20 +1,16 @@
 -- Laws of words: where they start and end in their line, and how they are compared, byte by byte.
 use Prim.Native.Nat.{ℕ, zero, suc, _+_, _-_, _<_, _≤_}
 use native.Mathlib.Omega.{arith}
-use native.Mathlib.Numerals.{add-one}
 use mathlib.Core.Path.{_≡_, refl, ap, _∙_}
 use mathlib.Core.Bool.{Bool, true, false, cond, _&&_, and-false}
 use mathlib.Core.List.{List, [], _∷_, map}
 use lib.Dec.{leb, eqb}
 use lib.ListN.{length, getD, take, drop, length-drop, length-map, drop-of-length-le}
-use lib.Seq.{drop-cons, drop-drop}
+use lib.Seq.{drop-drop}
 use borrow.Author.Tests.{leb-true, eq-eqb, ne-eqb, eqb-true}
+pub use Rattle.laws.specs.PlaceLaws.{from-here}
 use Rattle.words.specs.declared.LineKind.the-variants.{Silent, Clear, TooLong}
 use Rattle.words.specs.LineWords.{isGap, isSilent, kindOf, joined, parts, full, words, wordsFrom, gapLength, wordLength, lastEnd, lower, same}
-
--- the line from a place on: the byte there, and the line from the next place on
-pub from-here : (line : List ℕ) (i : ℕ) → i < length line → drop i line ≡ getD line i 0 ∷ drop (i + 1) line
-from-here line i h = rw (add-one, drop-cons line i 0)
 
 -- spaces and tabs passed one by one
 pub gap-goes-on : (line : List ℕ) (i : ℕ) → i < length line → isGap (getD line i 0) ≡ true → gapLength (drop i line) ≡ suc (gapLength (drop (i + 1) line))

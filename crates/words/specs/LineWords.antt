@@ -1,18 +1,12 @@
 -- The desk's language: a line, as the list of its bytes without the line end, and its words.
 use Prim.Native.Nat.{ℕ, suc, _+_}
-use Prim.Native.Char.{code}
-use Prim.Native.String.{String, [] as blank, _∷_ as _then_}
 use mathlib.Core.Bool.{Bool, true, false, cond, _&&_, _||_}
 use mathlib.Core.List.{List, [], _∷_}
 use lib.Dec.{leb, eqb}
 use lib.ListN.{length, drop}
+pub use Rattle.laws.specs.Ascii.{ascii}
 use Rattle.words.specs.declared.LineKind.{LineKind}
 use Rattle.words.specs.declared.LineKind.the-variants.{Silent, Clear, TooLong}
-
--- a text's bytes (ASCII)
-abbrev pub ascii : String → List ℕ
-ascii blank = []
-ascii (letter then text) = code letter ∷ ascii text
 
 -- "Words are parted by one or more spaces or tabs"
 unfoldable pub isGap : ℕ → Bool

@@ -1,5 +1,6 @@
 use lib.ListN.{length, drop, drop-of-length-le}
-use Rattle.text.specs.TextLaws.{Remains, all-remains, rest-remains, none-remains, part-on}
+use Rattle.laws.specs.PlaceLaws.{from-here}
+use Rattle.text.specs.TextLaws.{Remains, all-remains, rest-remains, none-remains}
 use Prim.Native.Nat.{_≤_, _-_}
 use mathlib.Core.Path.{_≡_, refl}
 use native.Mathlib.Omega.{arith}
@@ -29,7 +30,7 @@ loop-less : tie.Need-loop-less Inv-loop μ-loop
 loop-less c = search needs
 
 loop-again : tie.Need-loop-again Inv-loop μ-loop
-loop-again c = let at = c .before .before .before .before .before .before .loop in (omega arith, search needs, rest-remains (rw (part-on _ (at .i) (c .before .before .before .before .before .loop-test .taken)) at (at .inv .2)) (c .before .before .put-byte .ensures))
+loop-again c = let at = c .before .before .before .before .before .before .loop in (omega arith, search needs, rest-remains (rw (from-here _ (at .i) (c .before .before .before .before .before .loop-test .taken)) at (at .inv .2)) (c .before .before .put-byte .ensures))
 
 same-length : tie.Need-same-length Inv-loop μ-loop
 same-length c = search needs
