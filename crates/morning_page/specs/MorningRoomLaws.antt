@@ -1,31 +1,15 @@
 -- How long the morning's page is at most: as long as its titles, what is due and what came out, and a little for each check.
-use Prim.Native.Nat.{ℕ, zero, suc, _+_, _^_, _≤_}
-use mathlib.Core.Path.{_≡_, refl, ap, _∙_}
+use Prim.Native.Nat.{ℕ, _+_, _≤_}
+use mathlib.Core.Path.{_≡_}
 use mathlib.Core.Bool.{Bool, true, false, cond}
 use mathlib.Core.List.{List, [], _∷_, _++_}
 use native.Mathlib.Omega.{arith}
-use lib.Dec.{eqb, ltb}
+use lib.Dec.{eqb}
 use lib.ListN.{length, length-append}
 use Rattle.text.specs.Text.{ascii}
-use Rattle.text.specs.NumberText.{digitsText, widthFrom, width, decimalText}
+use Rattle.text.specs.NumberText.{decimalText}
+use Rattle.text.specs.NumberTextLaws.{decimal-length}
 use Rattle.morning_page.specs.MorningPage.{Check, isGood, underText, judgedText, checkText, checksText, goodLetters, badLetters, verdictText}
-
-digits-length : (base k n : ℕ) → length (digitsText base k n) ≡ k
-unfolding digitsText
-digits-length base zero n = refl
-digits-length base (suc k) n = ap suc (digits-length base k n)
-
-width-most : (base n more k : ℕ) → widthFrom base n more k ≤ k + more
-unfolding widthFrom
-width-most base n zero k = omega arith
-width-most base n (suc more) k = by-test (width-most base n more (suc k)) (ltb n (base ^ k))
-  where
-    by-test : widthFrom base n more (suc k) ≤ suc k + more → (t : Bool) → cond t k (widthFrom base n more (suc k)) ≤ k + suc more
-    by-test h true = omega arith
-    by-test h false = omega arith
-
-decimal-length : (n : ℕ) → length (decimalText n) ≤ 20
-decimal-length n = omega (arith, digits-length 10 (width 10 n) n, width-most 10 n 19 1)
 
 -- what a check takes on the page at most
 abbrev pub sizeOf : Check → ℕ

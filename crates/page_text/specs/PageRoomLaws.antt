@@ -2,7 +2,7 @@
 use Prim.Native.Nat.{ℕ, zero, suc, _+_, _*_, _/_, _≤_}
 use Prim.Native.String.{String}
 use mathlib.Core.Bool.{Bool, true, false, cond}
-use mathlib.Core.Path.{_≡_, refl, ap}
+use mathlib.Core.Path.{_≡_, refl}
 use mathlib.Core.List.{List, [], _∷_, _++_}
 use native.Mathlib.Omega.{arith}
 use native.Mathlib.Nat.{le-refl, le-of-eq}
@@ -24,7 +24,8 @@ use Rattle.summary.specs.Page.{pageOf, pageVerdict}
 use Rattle.summary.specs.PageLaws.{page-read-so}
 use Rattle.text.specs.Text.{ascii, Puts}
 use Rattle.text.specs.TextLaws.{told-whole}
-use Rattle.text.specs.NumberText.{digitsText, widthFrom, decimalText}
+use Rattle.text.specs.NumberText.{digitsText, decimalText}
+use Rattle.text.specs.NumberTextLaws.{digits-length, decimal-length}
 use Rattle.page_text.specs.PageText.{
   named,
   line,
@@ -42,25 +43,11 @@ use Rattle.page_text.specs.PageText.{
   printed,
 }
 
-digits-many : (base k n : ℕ) → length (digitsText base k n) ≡ k
-unfolding digitsText
-digits-many base zero n = refl
-digits-many base (suc k) n = ap suc (digits-many base k n)
-
-width-most : (base n more k : ℕ) → widthFrom base n more k ≤ k + more
-unfolding widthFrom
-width-most base n zero k = omega arith
-width-most base n (suc more) k = by-test (ltb n _) (width-most base n more (suc k))
-  where
-    by-test : (t : Bool) → widthFrom base n more (suc k) ≤ suc k + more → cond t k (widthFrom base n more (suc k)) ≤ k + suc more
-    by-test true h = omega arith
-    by-test false h = omega arith
-
 record Most (text : List ℕ) (most : ℕ) : Type 0 where
   at-most : length text ≤ most
 
 decimal-most : (n : ℕ) → Most (decimalText n) 20
-decimal-most n = record { at-most = omega (arith, digits-many 10 (widthFrom 10 n 19 1) n, width-most 10 n 19 1) }
+decimal-most n = record { at-most = decimal-length n }
 
 infixl 30 _and_
 _and_ : {t u : List ℕ} {i j : ℕ} → Most t i → Most u j → Most (t ++ u) (i + j)
@@ -73,7 +60,7 @@ letters : (name : String) → Most (ascii name) (length (ascii name))
 letters name = record { at-most = le-refl (length (ascii name)) }
 
 digits-most : (base k n : ℕ) → Most (digitsText base k n) k
-digits-most base k n = record { at-most = le-of-eq (digits-many base k n) }
+digits-most base k n = record { at-most = le-of-eq (digits-length base k n) }
 
 named-most : (name : String) (n : ℕ) → Most (named name n) (length (ascii name) + 20)
 named-most name n = letters name and decimal-most n

@@ -1,10 +1,9 @@
 -- Laws of how long an answer is: at most 4,095 bytes, so that a text of 4,096, as the programs lend it, has room for it and its line end.
-use Prim.Native.Nat.{ℕ, zero, suc, _+_, _*_, _^_, _≤_}
+use Prim.Native.Nat.{ℕ, zero, suc, _*_, _≤_}
 use mathlib.Core.Path.{_≡_, refl}
-use mathlib.Core.Bool.{Bool, true, false, cond}
+use mathlib.Core.Bool.{Bool, true, false}
 use mathlib.Core.List.{List, [], _∷_}
 use native.Mathlib.Omega.{arith}
-use lib.Dec.{ltb}
 use lib.ListN.{length, getD, take, length-append}
 use borrow.Author.Tests.{leb-true}
 use Rattle.grounds.specs.declared.Ground.{Ground}
@@ -47,10 +46,10 @@ use Rattle.pod_lines.specs.PodLines.{Meaning, nothing, builds, reads, unclear}
 use Rattle.exchange.specs.declared.Exchanged.{Exchanged}
 use Rattle.exchange.specs.declared.Exchanged.the-variants.{Ended, Refused as RefusedToExchange}
 use Rattle.text.specs.Text.{flagText}
-use Rattle.text.specs.NumberText.{digitsText, widthFrom, width, numberText, decimalText}
+use Rattle.text.specs.NumberText.{digitsText}
+use Rattle.text.specs.NumberTextLaws.{digits-length, number-length, decimal-length}
 use Rattle.refusal_text.specs.RefusalText.{refusedAt}
 use Rattle.request_text.specs.RequestText.{outcomeText, eachWord, readingText}
-use Rattle.text_laws.specs.ReadBackLaws.{digits-length}
 use Rattle.replies.specs.ReplyText.{packetText, capturedText, eventText, breakpointText, bytesText}
 use Rattle.state_line.specs.StateText.{bitOf, registersText, phaseText, chainText, stateText}
 use Rattle.answers.specs.declared.Bench.{Bench}
@@ -63,21 +62,6 @@ use Rattle.languages.specs.declared.Language.the-variants.{StandIn, Talk, Both,
 use Rattle.languages.specs.HelpText.{helpText}
 use Rattle.pod_answers.specs.PodSaid.{builtBy, readText, podText}
 use Rattle.said_laws.specs.FitLineLaws.{Fit}
-
-width-most : (base n more k : ℕ) → widthFrom base n more k ≤ k + more
-unfolding widthFrom
-width-most base n zero k = omega arith
-width-most base n (suc more) k = by-test (ltb n (base ^ k)) (width-most base n more (suc k))
-  where
-    by-test : (t : Bool) → widthFrom base n more (suc k) ≤ suc k + more → cond t k (widthFrom base n more (suc k)) ≤ k + suc more
-    by-test true next = omega arith
-    by-test false next = omega arith
-
-number-length : (n : ℕ) → length (numberText n) ≤ 20
-number-length n = omega (arith, digits-length 16 (width 16 n) n, width-most 16 n 19 1)
-
-decimal-length : (n : ℕ) → length (decimalText n) ≤ 20
-decimal-length n = omega (arith, digits-length 10 (width 10 n) n, width-most 10 n 19 1)
 
 refused-length : (g : Ground) (cycle : ℕ) → length (refusedAt g cycle) ≤ 64
 refused-length g cycle = simp length-append (omega (arith, decimal-length (number g), decimal-length cycle))

@@ -1,14 +1,15 @@
 -- Laws of numbers as text: digit by digit, and how many digits there are.
 use Prim.Native.Nat.{ℕ, zero, suc, _+_, _-_, _*_, _/_, _%_, _^_, _≤_, _<_}
-use mathlib.Core.Path.{_≡_, refl}
+use mathlib.Core.Path.{_≡_, refl, ap}
 use mathlib.Core.Bool.{Bool, true, false, cond}
 use mathlib.Core.List.{[], _∷_, _++_}
 use native.Mathlib.Omega.{arith}
 use native.Mathlib.Nat.{div-div-eq-div-mul, div-one, pow-zero, pow-suc, pow-succ', one-le-pow, one-mul, div-lt-iff-lt-mul, div-eq-of-lt}
 use native.Mathlib.Numerals.{add-one}
 use lib.Dec.{ltb}
+use lib.ListN.{length}
 use borrow.Author.Tests.{lt-ltb, le-ltb, ltb-true, ltb-false}
-use Rattle.text.specs.NumberText.{digitText, digitsText, widthFrom}
+use Rattle.text.specs.NumberText.{digitText, digitsText, widthFrom, width, numberText, decimalText}
 
 -- one digit less, and then the others
 pub shift-step : (base v left : ℕ) → 0 < left → v / base / base ^ (left - 1) ≡ v / base ^ left
@@ -29,6 +30,12 @@ pub digits-none : (base k n : ℕ) → k ≤ 0 → digitsText base k n ≡ []
 unfolding digitsText
 digits-none base zero n h = refl
 digits-none base (suc k) n h = absurd (omega arith)
+
+-- so many digits are so many bytes
+pub digits-length : (base k n : ℕ) → length (digitsText base k n) ≡ k
+unfolding digitsText
+digits-length base zero n = refl
+digits-length base (suc k) n = ap suc (digits-length base k n)
 
 -- what is left of a number above its lowest k digits
 pub left-none : (base n k : ℕ) → 0 < base → n / base ^ k ≡ 0 → n < base ^ k
@@ -70,3 +77,20 @@ width-holds base n (suc more) k h = by-test (ltb n (base ^ k)) refl (λ further.
         → n < base ^ cond t k (widthFrom base n more (suc k))
     by-test true e next = ltb-true n (base ^ k) e
     by-test false e next = let f : k + suc more ≡ suc k + more = omega arith in next (rw f at h)
+
+-- no number has more digits than so many at most
+pub width-most : (base n more k : ℕ) → widthFrom base n more k ≤ k + more
+unfolding widthFrom
+width-most base n zero k = omega arith
+width-most base n (suc more) k = by-test (ltb n (base ^ k)) (width-most base n more (suc k))
+  where
+    by-test : (t : Bool) → widthFrom base n more (suc k) ≤ suc k + more → cond t k (widthFrom base n more (suc k)) ≤ k + suc more
+    by-test true next = omega arith
+    by-test false next = omega arith
+
+-- a number without leading zeros has 20 bytes at most
+pub number-length : (n : ℕ) → length (numberText n) ≤ 20
+number-length n = omega (arith, digits-length 16 (width 16 n) n, width-most 16 n 19 1)
+
+pub decimal-length : (n : ℕ) → length (decimalText n) ≤ 20
+decimal-length n = omega (arith, digits-length 10 (width 10 n) n, width-most 10 n 19 1)

@@ -1,6 +1,6 @@
 -- Laws of reading numbers back: what was written is read again, in hexadecimal at its width and without one, and in decimal.
 use Prim.Native.Nat.{ℕ, zero, suc, _+_, _-_, _*_, _/_, _%_, _^_, _≤_, _<_}
-use mathlib.Core.Path.{_≡_, refl, ap, _∙_}
+use mathlib.Core.Path.{_≡_, refl, _∙_}
 use mathlib.Core.Bool.{Bool, true, false, cond}
 use mathlib.Core.List.{List, [], _∷_}
 use native.Mathlib.Omega.{arith}
@@ -13,7 +13,7 @@ use Rattle.numbers.specs.declared.Numeral.the-variants.{Value}
 use Rattle.numbers.specs.NumberLaws.{within, above}
 use Rattle.numbers.specs.NumeralLaws.{digits-have-no-prefix}
 use Rattle.text.specs.NumberText.{digitText, digitsText, widthFrom, width, hexText, numberText, decimalText}
-use Rattle.text.specs.NumberTextLaws.{width-holds}
+use Rattle.text.specs.NumberTextLaws.{digits-length, width-holds}
 
 -- digits read one by one, each by what it is worth, after those that made the number before them
 abbrev pub readFrom : (ℕ → ℕ) → ℕ → ℕ → List ℕ → ℕ
@@ -97,12 +97,6 @@ number-back n h = hex-back (width 16 n) n (width-holds 16 n 19 1 h)
 
 pub decimal-back : (n : ℕ) → n < 10 ^ 20 → decimalValue (decimalText n) ≡ n
 decimal-back n h = digits-back decimalWorth 10 (omega arith) decimal-worth (width 10 n) n (width-holds 10 n 19 1 h)
-
--- so many digits are so many bytes
-pub digits-length : (base k n : ℕ) → length (digitsText base k n) ≡ k
-unfolding digitsText
-digits-length base zero n = refl
-digits-length base (suc k) n = ap suc (digits-length base k n)
 
 -- and as a line's number is read, where it has a place of 32 bits
 pub hex-numeral : (k n : ℕ) → 0 < k → n < 16 ^ k → n ≤ 0xFFFFFFFF → numeral (hexText k n) ≡ Value n
