@@ -1,5 +1,5 @@
 -- Laws of what is said to the pod's lines: the words built, and the replies read.
-use Prim.Native.Nat.{ℕ, suc, _≤_}
+use Prim.Native.Nat.{ℕ, _≤_}
 use mathlib.Core.Path.{_≡_, refl, ap, sym, _∙_}
 use mathlib.Core.Bool.{Bool, true, false, cond}
 use mathlib.Core.List.{List, [], _∷_, _++_}
@@ -30,6 +30,7 @@ use Rattle.pod_lines.specs.declared.Taken.the-variants.{Count, TooMany, NotAllN
 use Rattle.pod_lines.specs.declared.PodLine.{PodLine}
 use Rattle.pod_lines.specs.declared.PodLine.the-variants.{Nothing, Build, Read, BufferTooShort, Unclear}
 use Rattle.pod_lines.specs.Taking.{values, allNumerals, taken, bufferAfter}
+use Rattle.pod_lines.specs.TakingLaws.{values-length}
 use Rattle.pod_lines.specs.PodLines.{Meaning, nothing, builds, reads, unclear, readAnswer, podMeaning, answered, bufferOf, PodMeets}
 use Rattle.pod_answers.specs.PodSaid.{builtBy, builtText, readText, podText, podSaid}
 
@@ -71,11 +72,6 @@ refused-built {request} {before} {after} {r} {ground} five meets e =
 
 pub reading-answered : {request : Request} {replies : List ℕ} {r : Reading} → ReadingMeets request replies r → r ≡ reading request replies
 reading-answered {request} {replies} {r} meets = told-reading-unique r (reading request replies) (meets .answer)
-
--- the replies of a line, as they stand in the buffer
-values-length : (words : List (List ℕ)) → length (values words) ≡ length words
-values-length [] = refl
-values-length (word ∷ words) = ap suc (values-length words)
 
 -- what is said to what a line was read as, its replies in the buffer
 abbrev pub lineText : PodLine → List ℕ → List ℕ

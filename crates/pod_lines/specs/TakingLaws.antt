@@ -42,7 +42,8 @@ pub put-goes-on : (buffer : List ℕ) (n : ℕ) (word : List ℕ) (words : List 
     → sets buffer n (values (word ∷ words)) ≡ sets (set buffer n (value word)) (n + 1) (values words)
 put-goes-on buffer n word words = rw (add-one n)
 
-values-length : (words : List (List ℕ)) → length (values words) ≡ length words
+-- a number for each word
+pub values-length : (words : List (List ℕ)) → length (values words) ≡ length words
 values-length [] = refl
 values-length (word ∷ words) = ap suc (values-length words)
 
