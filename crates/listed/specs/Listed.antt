@@ -6,8 +6,8 @@ use Rattle.trace.specs.Items.{items, words}
 use Rattle.trace.specs.TraceReading.{Told, refusal, counted}
 use Rattle.listing.specs.Listing.{listing}
 use Rattle.text.specs.Text.{ascii}
-use Rattle.text.specs.NumberText.{decimalText}
 use Rattle.text.specs.ListingText.{headText, wordsOfItem}
+use Rattle.refusal_text.specs.RefusalText.{refusedBy}
 
 -- an item for each two words
 abbrev pub itemsText : List ℕ → List ℕ
@@ -17,7 +17,7 @@ itemsText (word ∷ value ∷ more) = ascii ", " ++ wordsOfItem word value ++ it
 
 -- `refused N at C`, or the head and the items
 abbrev pub toldText : List ℕ → Told → List ℕ
-toldText trace (refusal number cycle) = ascii "refused " ++ decimalText number ++ ascii " at " ++ decimalText cycle
+toldText trace (refusal number cycle) = refusedBy number cycle
 toldText trace (counted n) = headText (length trace) n ++ itemsText (words (items trace))
 
 -- where there is room for so many words

@@ -19,7 +19,7 @@ use Rattle.summary.specs.declared.page.Page.{Page}
 use Rattle.summary.specs.Page.{pageOf, pageVerdict}
 use Rattle.text.specs.Text.{ascii}
 use Rattle.text.specs.NumberText.{digitsText, hexText, decimalText}
-use Rattle.refusal_text.specs.RefusalText.{refusedAt}
+use Rattle.refusal_text.specs.RefusalText.{refusedBy, refusedAt}
 
 abbrev pub line : List ℕ → List ℕ
 line text = text ++ ascii "\n"
@@ -96,7 +96,7 @@ pageText page index = linesBy page index (page .judged)
 -- the same of a trace, by how it is judged
 abbrev pub toldText : List ℕ → Told → List ℕ
 toldText trace (counted items) = pageLines (pageOf trace items) items (indexWords trace)
-toldText trace (refusal number cycle) = line (ascii "refused " ++ decimalText number ++ ascii " at " ++ decimalText cycle)
+toldText trace (refusal number cycle) = line (refusedBy number cycle)
 
 -- all that is printed of a trace, where the index has room for so many words
 abbrev pub printed : List ℕ → ℕ → List ℕ

@@ -9,8 +9,11 @@ use Rattle.text.specs.NumberText.{decimalText}
 abbrev pub unclearText : List ℕ
 unclearText = ascii "unclear"
 
+abbrev pub refusedBy : ℕ → ℕ → List ℕ
+refusedBy n cycle = ascii "refused " ++ decimalText n ++ ascii " at " ++ decimalText cycle
+
 abbrev pub refusedAt : Ground → ℕ → List ℕ
-refusedAt ground cycle = ascii "refused " ++ decimalText (number ground) ++ ascii " at " ++ decimalText cycle
+refusedAt ground cycle = refusedBy (number ground) cycle
 
 -- only a trace is refused at a cycle
 abbrev pub refusedText : Ground → List ℕ
