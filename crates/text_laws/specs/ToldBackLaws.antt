@@ -50,6 +50,10 @@ groundOf n =
 abbrev pub refusalOf : List ℕ → Ground
 refusalOf text = groundOf (cond (eqb (getD text 9 0) 32) (getD text 8 0 - 48) ((getD text 8 0 - 48) * 10 + (getD text 9 0 - 48)))
 
+-- its cycle, behind ` at `
+abbrev pub cycleOf : List ℕ → ℕ
+cycleOf text = decimalValue (drop (cond (eqb (getD text 9 0) 32) 13 14) text)
+
 pub refusal-back : (g : Ground) (cycle : ℕ) → refusalOf (refusedAt g cycle) ≡ g
 unfolding digitText digitsText widthFrom
 refusal-back WordTooLarge cycle = refl
@@ -66,6 +70,23 @@ refusal-back BufferTooShort cycle = refl
 refusal-back StateOutOfRange cycle = refl
 refusal-back RequestOutOfRange cycle = refl
 refusal-back ImpossibleReply cycle = refl
+
+pub cycle-back : (g : Ground) (cycle : ℕ) → cycle < 10 ^ 20 → cycleOf (refusedAt g cycle) ≡ cycle
+unfolding digitText digitsText widthFrom
+cycle-back WordTooLarge cycle h = decimal-back cycle h
+cycle-back WaitTooLarge cycle h = decimal-back cycle h
+cycle-back MemoryTooLong cycle h = decimal-back cycle h
+cycle-back EventWhileHalted cycle h = decimal-back cycle h
+cycle-back OddPc cycle h = decimal-back cycle h
+cycle-back ReservedSize cycle h = decimal-back cycle h
+cycle-back TraceTooLong cycle h = decimal-back cycle h
+cycle-back ReservedPst cycle h = decimal-back cycle h
+cycle-back MarkerTooSoon cycle h = decimal-back cycle h
+cycle-back TraceCutShort cycle h = decimal-back cycle h
+cycle-back BufferTooShort cycle h = decimal-back cycle h
+cycle-back StateOutOfRange cycle h = decimal-back cycle h
+cycle-back RequestOutOfRange cycle h = decimal-back cycle h
+cycle-back ImpossibleReply cycle h = decimal-back cycle h
 
 -- the reply to a packet: both kinds begin with `re`
 abbrev pub packetOf : List ℕ → PacketOutcome

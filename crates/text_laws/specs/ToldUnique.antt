@@ -13,11 +13,16 @@ use Rattle.refusal_text.specs.RefusalText.{refusedAt}
 use Rattle.request_text.specs.RequestText.{readingText, exchangeText}
 use Rattle.replies.specs.ReplyText.{packetText, eventText, breakpointText}
 use Rattle.text_laws.specs.ReadBackLaws.{decimalValue}
-use Rattle.text_laws.specs.ToldBackLaws.{refusalOf, refusal-back, packetOf, PacketHeld, packet-back, outcomeOf, numberAt, OutcomeHeld, exchange-back}
-use Rattle.text_laws.specs.ToldBackLaws.{readingOf, ReadingHeld, reading-back, eventOf, EventHeld, event-back, breakpointOf, breakpoint-back}
+use Rattle.text_laws.specs.ToldBackLaws.{refusalOf, refusal-back, cycleOf, cycle-back, packetOf, PacketHeld, packet-back}
+use Rattle.text_laws.specs.ToldBackLaws.{outcomeOf, numberAt, OutcomeHeld, exchange-back, readingOf, ReadingHeld, reading-back}
+use Rattle.text_laws.specs.ToldBackLaws.{eventOf, EventHeld, event-back, breakpointOf, breakpoint-back}
 
-pub refusal-unique : (g h : Ground) (c d : ℕ) → refusedAt g c ≡ refusedAt h d → g ≡ h
-refusal-unique g h c d e = sym (refusal-back g c) ∙ ap refusalOf e ∙ refusal-back h d
+-- a refusal, of a trace at its cycle: `refused N at C`
+pub refusal-unique : (g h : Ground) (c d : ℕ) → refusedAt g c ≡ refusedAt h d → (g ≡ h) × (c < 10 ^ 20 → d < 10 ^ 20 → c ≡ d)
+refusal-unique g h c d e = (
+  sym (refusal-back g c) ∙ ap refusalOf e ∙ refusal-back h d,
+  λ small below. sym (cycle-back g c small) ∙ ap cycleOf e ∙ cycle-back h d below,
+)
 
 -- the answers to a packet: `reply X` or `refused N at 0`
 pub packet-text-unique : (o q : PacketOutcome) → PacketHeld o → PacketHeld q → packetText o ≡ packetText q → o ≡ q
