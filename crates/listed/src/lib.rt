@@ -4,9 +4,11 @@ use text::listing::put_head;
 use text::listing::put_item;
 use text::put_text;
 use trace::Listing;
+ghost use mathlib.Core.Path.{_≡_};
+ghost use lib.ListN.{length};
+ghost use Rattle.listing.specs.Listing.{listing, wordsAfter};
 ghost use Rattle.text.specs.Text.{Puts};
 ghost use Rattle.listed.specs.Listed.{itemsText, listedText};
-ghost use lib.ListN.{length};
 
 fn put_items(words: &[u32], text: &mut [u8], from: usize) -> usize
     ensures { λ r. ⌜ Puts (now (text .entry)) from (itemsText (now (words .entry))) (now (text .exit)) r ⌝ }
@@ -22,9 +24,10 @@ fn put_items(words: &[u32], text: &mut [u8], from: usize) -> usize
     at
 }
 
-// What the lister has of a trace, in a buffer for its items, at the front of the text.
+// What the lister has of a trace, at the front of the text; its items are left in the words lent, as the listing leaves them.
 pub fn put_listing(trace: &[u8], words: &mut [u32], text: &mut [u8]) -> usize
-    ensures { λ r. ⌜ Puts (now (text .entry)) 0 (listedText (now (trace .entry)) (length (now (words .entry)))) (now (text .exit)) r ⌝ }
+    ensures { λ r. ⌜ Puts (now (text .entry)) 0 (listedText (now (trace .entry)) (length (now (words .entry)))) (now (text .exit)) r
+        × (now (words .exit) ≡ wordsAfter (now (trace .entry)) (now (words .entry)) (listing (now (trace .entry)) (length (now (words .entry))))) ⌝ }
 {
     match listing::list_trace(trace, words) {
         Listing::Refused { ground, cycle } => put_refusal_at(text, ground, cycle),

@@ -41,7 +41,10 @@ same-length-2 : tie.Need-same-length-2
 same-length-2 c = search needs
 
 returns : tie.Need-returns
-returns c = rw (refused-text _ _ _ _ (c .before .before .before .before .before .before .before .before .before .list-trace .ensures) _ _ (c .before .before .before .before .before .ground .given .1)) (c .before .before .put-refusal-at .ensures)
+returns c =
+    let met = c .before .before .before .before .before .before .before .before .before .list-trace .ensures in
+    let text = c .before .before .put-refusal-at .ensures in
+    (rw (refused-text _ _ _ _ met _ _ (c .before .before .before .before .before .ground .given .1)) text, met .words)
 
 same-length-3 : tie.Need-same-length-3
 same-length-3 c = search needs
@@ -51,10 +54,11 @@ same-length-4 c = search needs
 
 returns-2 : tie.Need-returns-2
 returns-2 c =
-    rw (listed-text _ _ _ _ (c .before .before .before .before .before .before .before .before .before .before .before .before .before .before .list-trace .ensures) _ (c .before .before .before .before .before .before .before .before
-    .before .before .items .given .1)) ((c .before .before .before .before .before .before .before .put-head .ensures)
-    then (rw (listed-words _ _ _ _ (c .before .before .before .before .before .before .before .before .before .before .before .before .before .before .list-trace .ensures) _ (c .before .before .before .before .before .before .before .before
-    .before .before .items .given .1)) at (c .before .before .put-items .ensures)))
+    let met = c .before .before .before .before .before .before .before .before .before .before .before .before .before .before .list-trace .ensures in
+    let counted = c .before .before .before .before .before .before .before .before .before .before .items .given .1 in
+    let head = c .before .before .before .before .before .before .before .put-head .ensures in
+    let items = rw (listed-words _ _ _ _ met _ counted) at (c .before .before .put-items .ensures) in
+    (rw (listed-text _ _ _ _ met _ counted) (head then items), met .words)
 
 pub put-listing-spec : {M : Type 1} → statement M
 put-listing-spec =

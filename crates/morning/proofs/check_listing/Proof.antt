@@ -36,7 +36,7 @@ same-length : tie.Need-same-length
 same-length c = search needs
 
 returns : tie.Need-returns
-returns c = rw (told-cut (c .before .before .before .before .before .before .before .before .before .put-listing .ensures)) at (c .before .before .put-check .ensures)
+returns c = rw (told-cut (c .before .before .before .before .before .before .before .before .before .put-listing .ensures .0)) at (c .before .before .put-check .ensures)
 
 pub check-listing-spec : {M : Type 1} → statement M
 check-listing-spec =
