@@ -2,7 +2,7 @@
 use Prim.Native.Nat.{ℕ}
 use Prim.Native.String.{String}
 use mathlib.Core.Path.{_≡_}
-use mathlib.Core.List.{List, [], _∷_, _++_}
+use mathlib.Core.List.{List, [], _∷_, _++_, map}
 use lib.ListN.{take}
 use Rattle.text.specs.Text.{Puts, ascii}
 use Rattle.board.specs.Board.{freshBoard, freshPlace}
@@ -10,7 +10,7 @@ use Rattle.answers.specs.declared.Bench.{Bench}
 use Rattle.answers.specs.Bench.{Left, left, benchOf}
 use Rattle.morning_page.specs.MorningPage.{Check, checkOf, checksText, badFrom}
 use Rattle.scripts.specs.declared.Checked.{Checked}
-use Rattle.scripts.specs.Script.{lines, leaves, room, came}
+use Rattle.scripts.specs.Script.{lines, leaves, room, cameWhole}
 use Rattle.listed.specs.Listed.{listedText}
 
 -- a check of the board's: `-` marks a line that prepares, `+` one whose answer is shown
@@ -73,25 +73,39 @@ later = p5 ∷ p6 ∷ p7 ∷ p8 ∷ []
 abbrev pub boards : List Planned
 boards = p1 ∷ p2 ∷ p3 ∷ p4 ∷ later
 
--- "the bench goes on from one check to the next"
+-- each with all that came out: "the bench goes on from one check to the next"
+unfoldable pub wholeOf : List Planned → Left → List Check
+wholeOf [] l = []
+wholeOf (p ∷ more) l = checkOf (p .title) (p .due) (cameWhole (p .script) l) ∷ wholeOf more (leaves (lines (p .script)) l)
+
+-- "what came out has room for 4,096 bytes"
+abbrev pub cut : Check → Check
+cut check = checkOf (check .title) (check .due) (take room (check .came))
+
+-- so they are judged and put on the page
 unfoldable pub checksOf : List Planned → Left → List Check
-checksOf [] l = []
-checksOf (p ∷ more) l = checkOf (p .title) (p .due) (came (p .script) l) ∷ checksOf more (leaves (lines (p .script)) l)
+checksOf ps l = map cut (wholeOf ps l)
 
 -- P9: the lister's lines, over room for 36 words
 abbrev pub p9Trace : List ℕ
 p9Trace = 0x10 ∷ 0x50 ∷ 0x90 ∷ 0x04 ∷ 0x03 ∷ 0x02 ∷ 0x11 ∷ 0xF0 ∷ 0xF0 ∷ []
 
-abbrev pub p9 : Check
-p9 =
+abbrev pub p9Whole : Check
+p9Whole =
     checkOf (ascii "the trace 10 50 90 04 03 02 11 F0 F0") (ascii "trace cycles=9 items=5, 0 1 0, 1 5 0, 6 9 4660, 6 1 0, 7 15 0")
-    (take room (listedText p9Trace 36))
+    (listedText p9Trace 36)
+
+abbrev pub p9 : Check
+p9 = cut p9Whole
 
 -- the bench as it starts: `make 0`, and no memory lent
 abbrev pub first : Bench
 first = benchOf (freshBoard 0) freshPlace 0
 
--- the nine, from the bench as it starts and from what memory holds
+-- the nine, from the bench as it starts and from what memory holds: with all that came out, and as they are judged
+abbrev pub nineWhole : List ℕ → List Check
+nineWhole m = wholeOf boards (left first m) ++ (p9Whole ∷ [])
+
 abbrev pub nine : List ℕ → List Check
 nine m = checksOf boards (left first m) ++ (p9 ∷ [])
 

@@ -1,8 +1,7 @@
 -- Laws of the morning's check: check after check, and the whole page.
-use Prim.Native.Nat.{ℕ, suc, _+_, _≤_}
+use Prim.Native.Nat.{ℕ, suc, _+_, _≤_, _<_}
 use mathlib.Core.Path.{_≡_, refl, ap, sym, _∙_}
-use mathlib.Core.Bool.{false}
-use mathlib.Core.List.{List, [], _∷_, _++_, append-assoc}
+use mathlib.Core.List.{List, [], _∷_, _++_, append-assoc, map, map-append}
 use native.Mathlib.Omega.{arith}
 use native.Mathlib.Nat.{add-zero}
 use lib.ListN.{length, take, length-append, length-take}
@@ -16,14 +15,15 @@ use Rattle.morning_page.specs.MorningPageLaws.{ending, good-said-all-due, all-d
 use Rattle.morning_page.specs.MorningRoomLaws.{sizeOf, sizesOf, checks-length, verdict-length}
 use Rattle.listed.specs.Listed.{listedText}
 use Rattle.scripts.specs.declared.Checked.{Checked}
-use Rattle.scripts.specs.Script.{lines, leaves, shows, partedAfter, room, came, CheckedSo}
-use Rattle.morning.specs.Morning.{Planned, checksOf, boards, p9Trace, p9, first, nine, unjudged, PagedSo}
+use Rattle.scripts.specs.Script.{lines, leaves, cameWhole, room, came, CheckedSo}
+use Rattle.scripts.specs.ScriptLaws.{whole-as-due, as-due-cut}
+use Rattle.morning.specs.Morning.{Planned, wholeOf, cut, checksOf, boards, p9Trace, p9Whole, p9, first, nineWhole, nine, unjudged, PagedSo}
 
 -- a check, and those after it
 pub paged-on : (p : Planned) (more : List Planned) (l : Left) {number : ℕ} {before r r′ : Checked} {page page₁ page₂ m : List ℕ}
     → CheckedSo number (checkOf (p .title) (p .due) (came (p .script) l)) (leaves (lines (p .script)) l) before page r page₁ m
     → PagedSo (number + 1) (checksOf more (left (r .bench) m)) r page₁ r′ page₂ → PagedSo number (checksOf (p ∷ more) l) before page r′ page₂
-unfolding checksOf
+unfolding wholeOf checksOf
 paged-on p more l one rest =
     let after = rw (one .stands) at rest in
     record {
@@ -32,7 +32,7 @@ paged-on p more l one rest =
     }
 
 pub paged-none : (l : Left) {number : ℕ} {before : Checked} {page : List ℕ} → PagedSo number (checksOf [] l) before page before page
-unfolding checksOf
+unfolding wholeOf checksOf
 paged-none l = record { lines = nothing _ _; count = refl }
 
 -- from the bench as it starts
@@ -69,7 +69,7 @@ page-whole checks check {j = j} {page} {page₂ = page₂} eight paged judged ve
 
 -- P1 to P8 are eight, and with P9 they are nine
 pub eight-boards : (l : Left) → length (checksOf boards l) ≡ 8
-unfolding checksOf
+unfolding wholeOf checksOf
 eight-boards l = refl
 
 nine-checks : (m : List ℕ) → length (nine m) ≡ 9
@@ -88,10 +88,10 @@ plannedSizes [] = 0
 plannedSizes (p ∷ more) = 60 + length (p .title) + length (p .due) + room + plannedSizes more
 
 came-within : (script : List ℕ) (l : Left) → length (came script l) ≤ room
-came-within script l = omega (arith, length-take room (partedAfter false (shows (lines script) l)))
+came-within script l = omega (arith, length-take room (cameWhole script l))
 
 planned-within : (ps : List Planned) (l : Left) → sizesOf (checksOf ps l) ≤ plannedSizes ps
-unfolding checksOf
+unfolding wholeOf checksOf
 planned-within [] l = omega arith
 planned-within (p ∷ more) l = omega (arith, came-within (p .script) l, planned-within more (leaves (lines (p .script)) l))
 
@@ -118,3 +118,40 @@ page-fits m =
 pub page-read : (m : List ℕ) {page page′ : List ℕ} {end : ℕ} → 65536 ≤ length page → Puts page 0 (pageText (nine m)) page′ end
     → take end page′ ≡ pageText (nine m)
 page-read m {page} long puts = told-whole puts (omega (arith, page-fits m))
+
+-- what is due is shorter than the room for what came out
+abbrev AllShort : List Check → Type 0
+AllShort [] = Unit {0}
+AllShort (check ∷ checks) = (length (check .due) < room) × AllShort checks
+
+short-more : (checks : List Check) (check : Check) → AllShort checks → length (check .due) < room → AllShort (checks ++ (check ∷ []))
+short-more [] check short h = (h, tt)
+short-more (one ∷ checks) check short h = (short .0, short-more checks check (short .1) h)
+
+nine-short : (m : List ℕ) → AllShort (nineWhole m)
+unfolding wholeOf
+nine-short m =
+    short-more (wholeOf boards (left first m)) p9Whole
+    (omega arith, (omega arith, (omega arith, (omega arith, (omega arith, (omega arith, (omega arith, (omega arith, tt)))))))) (omega arith)
+
+-- so nothing was cut off where each came out as due
+all-whole : (checks : List Check) → AllShort checks → AllAsDue (map cut checks) → AllAsDue checks
+all-whole [] short due = tt
+all-whole (check ∷ checks) short due = (whole-as-due (check .due) (check .came) (short .0) (due .0), all-whole checks (short .1) (due .1))
+
+all-cut : (checks : List Check) → AllShort checks → AllAsDue checks → AllAsDue (map cut checks)
+all-cut [] short due = tt
+all-cut (check ∷ checks) short due = (as-due-cut (check .due) (check .came) (short .0) (due .0), all-cut checks (short .1) (due .1))
+
+nine-cut : (m : List ℕ) → map cut (nineWhole m) ≡ nine m
+unfolding checksOf
+nine-cut m = map-append cut (wholeOf boards (left first m)) (p9Whole ∷ [])
+
+-- THE LAW: the page that stands in the program's buffer ends with ALL 9 GOOD exactly if each of the nine, with all that came out, came out as it is due
+pub good-iff-whole-as-due : (m : List ℕ) {page page′ : List ℕ} {end : ℕ} → 65536 ≤ length page → Puts page 0 (pageText (nine m)) page′ end
+    → (ending (take end page′) ≡ ascii "ALL 9 GOOD\n" → AllAsDue (nineWhole m)) × (AllAsDue (nineWhole m) → ending (take end page′) ≡ ascii "ALL 9 GOOD\n")
+good-iff-whole-as-due m long puts =
+    let read = ap ending (page-read m long puts) in (
+      λ said. all-whole (nineWhole m) (nine-short m) (rw (nine-cut m) (morning-good m (sym read ∙ said))),
+      λ due. read ∙ good-morning m (rw (← nine-cut m) (all-cut (nineWhole m) (nine-short m) due)),
+    )

@@ -11,7 +11,7 @@ use Rattle.answers.specs.declared.Bench.{Bench}
 use Rattle.answers.specs.Bench.{Left, left}
 use Rattle.languages.specs.declared.Language.the-variants.{Both}
 use Rattle.languages.specs.Heard.{heard, after, saidTo}
-use Rattle.morning_page.specs.MorningPage.{Check, checkOf, checkText, badAfter}
+use Rattle.morning_page.specs.MorningPage.{Check, checkText, badAfter}
 use Rattle.scripts.specs.declared.Gone.{Gone}
 use Rattle.scripts.specs.declared.Checked.{Checked}
 
@@ -64,12 +64,16 @@ abbrev pub shownAfter : Bool → List (List ℕ) → Bool
 shownAfter shown [] = shown
 shownAfter shown (text ∷ texts) = true
 
--- "what came out: the answers of the shown lines", as far as the room for them goes
+-- "what came out: the answers of the shown lines" ..
+abbrev pub cameWhole : List ℕ → Left → List ℕ
+cameWhole script l = partedAfter false (shows (lines script) l)
+
+-- .. as far as the room for them goes
 abbrev pub room : ℕ
 room = 4096
 
 abbrev pub came : List ℕ → Left → List ℕ
-came script l = take room (partedAfter false (shows (lines script) l))
+came script l = take room (cameWhole script l)
 
 -- before any line
 abbrev pub begun : Bench → Gone

@@ -182,10 +182,13 @@ module _ (script : List ℕ) (gone₀ : Gone) (text₀ m₀ : List ℕ) where
   unfolding shows leaves
   rests-out from gone text m h all = all gone text m (rw (drop-of-length-le script h) (went-nowhere gone text m))
 
--- what came out is cut where its room ends; where that is what is due, nothing was cut off
+-- what came out is cut where its room ends; that is what is due, where it has room, exactly if all of it is
 pub whole-as-due : (due text : List ℕ) → length due < room → take room text ≡ due → text ≡ due
 whole-as-due due text h e = by-room (leb (length text) room) refl
   where
     by-room : (fits : Bool) → leb (length text) room ≡ fits → text ≡ due
     by-room true f = sym (take-all room text (leb-true (length text) room f)) ∙ e
     by-room false f = absurd (omega (arith, ap length e, length-take room text, leb-false (length text) room f))
+
+pub as-due-cut : (due text : List ℕ) → length due < room → text ≡ due → take room text ≡ due
+as-due-cut due text h e = rw e (take-all room due (omega arith))
