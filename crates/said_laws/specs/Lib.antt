@@ -4,4 +4,5 @@ pub mod FitLineLaws
 pub mod SaidLengthLaws
 pub mod PlainLaws
 pub mod AnswerLaws
+pub mod InTurnLaws
 pub mod PodRoomLaws
