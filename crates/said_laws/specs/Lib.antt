@@ -5,4 +5,5 @@ pub mod SaidLengthLaws
 pub mod PlainLaws
 pub mod AnswerLaws
 pub mod InTurnLaws
+pub mod TypedLineLaws
 pub mod PodRoomLaws

@@ -2,7 +2,7 @@
 use Prim.Native.Nat.{ℕ, _+_, _^_, _≤_, _<_}
 use mathlib.Core.Path.{_≡_, refl, ap, sym, _∙_}
 use mathlib.Core.Bool.{true, cond, _&&_}
-use mathlib.Core.List.{List, [], _∷_}
+use mathlib.Core.List.{List, [], _∷_, _++_}
 use native.Mathlib.Omega.{arith}
 use lib.Dec.{eqb, leb}
 use lib.ListN.{length, getD, take, drop}
@@ -24,12 +24,16 @@ use Rattle.port.specs.declared.Answer.{Answer}
 use Rattle.port.specs.declared.Outcome.{Outcome}
 use Rattle.port.specs.Packet.{packetVerdict, answered, PacketMeets}
 use Rattle.requests.specs.declared.Request.{Request}
+use Rattle.request_lines.specs.declared.Asked.the-variants.{For}
+use Rattle.request_lines.specs.RequestLines.{requestOfOne}
 use Rattle.exchange.specs.declared.Exchanged.{Exchanged}
 use Rattle.exchange.specs.declared.Exchanged.the-variants.{Ended, Refused as RefusedToExchange}
 use Rattle.exchange.specs.declared.Returned.{Returned}
 use Rattle.exchange.specs.Exchange.{ExchangeMeets}
 use Rattle.exchange.specs.ExchangeMirror.{Typed}
 use Rattle.board_lines.specs.declared.BoardLine.the-variants.{Packet}
+use Rattle.words.specs.LineWords.{ascii, isGap, lower, same}
+use Rattle.text.specs.NumberText.{numberText}
 use Rattle.replies.specs.ReplyText.{packetText}
 use Rattle.readings.specs.declared.Outcome.{Outcome as Closing}
 use Rattle.readings.specs.declared.Outcome.the-variants.{Value, Complete, BusError, Illegal}
@@ -45,6 +49,10 @@ use Rattle.text_laws.specs.TextUnique.{puts-unique}
 use Rattle.answers.specs.SaidLaws.{packet-outcome}
 use Rattle.asking.specs.Asking.{exchangedText, exchangeSaid}
 use Rattle.asking.specs.AskingLaws.{exchange-outcome}
+use Rattle.languages.specs.declared.Language.the-variants.{StandIn, Talk}
+use Rattle.languages.specs.Heard.{heardOwn, heard, saidTo}
+use Rattle.course.specs.Course.{toldText}
+use Rattle.said_laws.specs.TypedLineLaws.{OneNumber, not-common, packet-heard, request-heard, number-typed}
 use Rattle.said_laws.specs.ExchangeHeldLaws.{ExchangeHeld, exchange-held}
 
 -- the reply that goes out fits five digits, where the place is in its ranges
@@ -83,6 +91,21 @@ module _ (line : List ℕ) (word : ℕ) (bench : Bench) (m : List ℕ) {r : Answ
       let held = packet-held (portState bench (take (bench .lent) m)) word in
       (ap packetText (sym due), λ o h e. packet-text-unique o _ h held e ∙ sym due)
 
+-- so of every line that is `packet` and a number, however it is typed: the answer is the text of the reply that the port gives to that number
+module _ {line name : List ℕ} {word : ℕ} (bench : Bench) (m : List ℕ) {r : Answer} {after : List ℕ} where
+  pub packet-line-unique : OneNumber line name word → same name (ascii "packet") ≡ true → PacketMeets (portState bench (take (bench .lent) m)) word r after
+      → (toldText StandIn line bench m ≡ packetText (r .outcome))
+      × ((o : Outcome) → PacketHeld o → packetText o ≡ toldText StandIn line bench m → o ≡ r .outcome)
+  unfolding heard heardOwn saidTo
+  packet-line-unique typed named meets = rw (not-common typed, packet-heard typed named) (packet-said-unique line word bench m meets)
+
+pub packet-typed-unique : (word : ℕ) → word ≤ 0xFFFFFFFF → (bench : Bench) (m : List ℕ) {r : Answer} {after : List ℕ}
+    → PacketMeets (portState bench (take (bench .lent) m)) word r after
+    → (toldText StandIn (ascii "packet " ++ numberText word) bench m ≡ packetText (r .outcome))
+    × ((o : Outcome) → PacketHeld o → packetText o ≡ toldText StandIn (ascii "packet " ++ numberText word) bench m → o ≡ r .outcome)
+unfolding isGap lower
+packet-typed-unique word fits bench m meets = packet-line-unique bench m (number-typed (ascii "packet") word refl refl (omega arith) fits) refl meets
+
 -- and of a request in talk
 abbrev exchangedOf : List ℕ → Exchanged
 exchangedOf text =
@@ -116,6 +139,16 @@ module _ (request : Request) (bench : Bench) (m : List ℕ) {r : Returned} {afte
       let held : ExchangeHeld (r .answer) = rw answer (exchange-held request (portState bench (take (bench .lent) m)) typed) in
       let said = ap exchangedText (sym (exchange-outcome meets)) in
       (said, λ x h e. exchanged-unique x (r .answer) h held (e ∙ said))
+
+-- so of every line that asks for a request by a name and a number, however it is typed
+module _ {line name : List ℕ} {n : ℕ} (request : Request) (bench : Bench) (m : List ℕ) {r : Returned} {after : List ℕ} where
+  pub request-line-unique : OneNumber line name n → requestOfOne name n ≡ For request → ExchangeMeets request (portState bench (take (bench .lent) m)) r after
+      → Typed (portState bench (take (bench .lent) m))
+      → (toldText Talk line bench m ≡ exchangedText (r .answer))
+      × ((x : Exchanged) → ExchangeHeld x → exchangedText x ≡ toldText Talk line bench m → x ≡ r .answer)
+  unfolding heard heardOwn saidTo
+  request-line-unique typed asked meets held =
+      rw (not-common typed, request-heard typed request asked) (exchange-said-unique request bench m meets held)
 
 -- a line answered: no second bench, memory or text fit
 pub answers-unique : {left : Left} {text buffer : List ℕ} {r s : Answered} {m n a b : List ℕ} → Answers left text buffer r m a → Answers left text buffer s n b
