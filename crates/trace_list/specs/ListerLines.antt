@@ -8,9 +8,7 @@ use Rattle.cycle.specs.declared.Item.{Item}
 use Rattle.cycle.specs.Cycle.{carriedInto}
 use Rattle.trace.specs.Items.{items, itemsToEnd, words}
 use Rattle.trace.specs.TraceReading.{Told, refusal, counted, reading}
-use Rattle.text.specs.Text.{ascii}
-use Rattle.text.specs.NumberText.{decimalText}
-use Rattle.refusal_text.specs.RefusalText.{unclearText}
+use Rattle.refusal_text.specs.RefusalText.{refusedBy, unclearText}
 use Rattle.text.specs.ListingText.{headText, wordsOfItem}
 use Rattle.trace_list.specs.declared.asked.Asked.{Asked}
 use Rattle.trace_list.specs.declared.asked.Asked.the-variants.{Whole, From, Unclear}
@@ -27,7 +25,7 @@ itemLines (word ∷ value ∷ more) = itemLine word value ∷ itemLines more
 
 -- `refused N at C`
 abbrev pub refusedLine : ℕ → ℕ → List ℕ
-refusedLine number cycle = (ascii "refused " ++ decimalText number ++ ascii " at " ++ decimalText cycle) ++ lineEnd
+refusedLine number cycle = refusedBy number cycle ++ lineEnd
 
 abbrev pub headLine : ℕ → ℕ → List ℕ
 headLine cycles count = headText cycles count ++ lineEnd

@@ -1,16 +1,13 @@
--- Laws of the parts written out: they are the lister's lines, none left out, none twice, and none of them is cut.
-use Prim.Native.Nat.{ℕ, zero, suc, _+_, _/_, _%_, _^_, _≤_, _<_}
-use mathlib.Core.Path.{_≡_, refl, ap, _∙_}
-use mathlib.Core.Bool.{Bool, true, false, cond}
-use mathlib.Core.List.{List, [], _∷_, _++_, append-assoc}
+-- Laws of the parts that the lister writes out: they are the lister's lines, none left out, none twice, and none of them is cut.
+use Prim.Native.Nat.{ℕ, _/_, _%_, _≤_}
+use mathlib.Core.Path.{_≡_, refl, ap}
+use mathlib.Core.List.{List, [], _∷_, _++_}
 use native.Mathlib.Omega.{arith}
-use lib.Dec.{ltb}
 use lib.ListN.{length, length-append}
-use borrow.Author.Tests.{ltb-true}
 use Rattle.cycle.specs.declared.Item.{Item}
 use Rattle.trace.specs.Items.{items, words}
 use Rattle.trace.specs.TraceReading.{Told, refusal, counted, reading}
-use Rattle.text.specs.NumberText.{digitsText, widthFrom, width, decimalText}
+use Rattle.text.specs.NumberTextLaws.{decimal-length}
 use Rattle.trace_list.specs.ListerLines.{itemLine, itemLines, refusedLine, headLine, linesBy, wholeLines}
 use Rattle.console.specs.GatheringLaws.{joined, parts-joined, EachWithin, parts-within}
 use Rattle.trace_list.specs.ListerPartsMirror.{partsBy, wholeParts}
@@ -24,23 +21,6 @@ pub whole-joined : (room : ℕ) (trace : List ℕ) → joined (wholeParts room t
 whole-joined room trace = told-joined room (length trace) (items trace) (reading trace)
 
 -- how long a line is
-width-most : (base n more k : ℕ) → widthFrom base n more k ≤ k + more
-unfolding widthFrom
-width-most base n zero k = omega arith
-width-most base n (suc more) k = by-test (ltb n (base ^ k)) (width-most base n more (suc k))
-  where
-    by-test : (t : Bool) → widthFrom base n more (suc k) ≤ suc k + more → cond t k (widthFrom base n more (suc k)) ≤ k + suc more
-    by-test true next = omega arith
-    by-test false next = omega arith
-
-digits-length : (base k n : ℕ) → length (digitsText base k n) ≡ k
-unfolding digitsText
-digits-length base zero n = refl
-digits-length base (suc k) n = ap suc (digits-length base k n)
-
-decimal-length : (n : ℕ) → length (decimalText n) ≤ 20
-decimal-length n = omega (arith, digits-length 10 (width 10 n) n, width-most 10 n 19 1)
-
 refused-length : (number cycle : ℕ) → length (refusedLine number cycle) ≤ 64
 refused-length number cycle = simp length-append (omega (arith, decimal-length number, decimal-length cycle))
 

@@ -1,0 +1,2 @@
+pub mod VisitTold
+pub mod VisitToldLaws

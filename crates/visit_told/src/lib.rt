@@ -1,0 +1,1 @@
+// No code: what the program gateway says of the stand-in.
