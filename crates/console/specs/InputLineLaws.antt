@@ -9,16 +9,6 @@ use Rattle.words.specs.LineWordLaws.{from-here}
 use Rattle.words.specs.LineWords.{joined}
 use Rattle.console.specs.InputLines.{isLineEnd, linesOf, firstLine, hasEnded, leftOver}
 
--- the first line and those of what is left
-pub lines-cut : (bytes : List ℕ) → hasEnded bytes ≡ true → linesOf bytes ≡ firstLine bytes ∷ linesOf (leftOver bytes)
-lines-cut [] e = cc
-lines-cut (byte ∷ bytes) e = by-test (lines-cut bytes) (isLineEnd byte) e
-  where
-    by-test : (hasEnded bytes ≡ true → linesOf bytes ≡ firstLine bytes ∷ linesOf (leftOver bytes)) → (t : Bool) → cond t true (hasEnded bytes) ≡ true
-        → cond t ([] ∷ linesOf bytes) (joined byte (linesOf bytes)) ≡ cond t [] (byte ∷ firstLine bytes) ∷ linesOf (cond t bytes (leftOver bytes))
-    by-test ih true e = refl
-    by-test ih false e = rw (ih e)
-
 -- the last line, whose end is that of the input
 pub lines-end : (bytes : List ℕ) → hasEnded bytes ≡ false → linesOf bytes ≡ bytes ∷ []
 lines-end [] e = refl
