@@ -18,7 +18,7 @@ use Rattle.numbers.specs.Numbers.{digit, isDigit, allDigits, prefixLength, digi
 use Rattle.numbers.specs.NumberLaws.{numeral-value}
 use Rattle.common_lines.specs.declared.CommonLine.the-variants.{Other}
 use Rattle.common_lines.specs.CommonLines.{commonLine}
-use Rattle.board_lines.specs.declared.BoardLine.the-variants.{Packet, Memory}
+use Rattle.board_lines.specs.declared.BoardLine.the-variants.{Packet}
 use Rattle.board_lines.specs.BoardLines.{boardOfOne, boardWords, boardLine}
 use Rattle.memory.specs.declared.Size.the-variants.{Long}
 use Rattle.requests.specs.declared.Request.{Request}
@@ -28,10 +28,8 @@ use Rattle.request_lines.specs.RequestLines.{sizeBehind, registerRead, requestO
 use Rattle.talk_lines.specs.declared.TalkLine.the-variants.{Ask}
 use Rattle.talk_lines.specs.TalkLines.{eitherLine, talkLine}
 use Rattle.text.specs.NumberText.{digitsText, hexText, numberText}
+use Rattle.text.specs.NumberTextLaws.{number-length}
 use Rattle.text_laws.specs.ReadBackLaws.{hex-numeral, number-numeral}
-use Rattle.line_answers.specs.LineSaid.{said}
-use Rattle.course.specs.Course.{opening}
-use Rattle.said_laws.specs.SaidLengthLaws.{said-length}
 
 -- a line of two words, however they are parted, the second of them a number, however it is typed
 pub record OneNumber (line name : List ℕ) (n : ℕ) : Type 0 where
@@ -128,15 +126,10 @@ one-number (byte ∷ name) word n g s h e =
       number = e;
     }
 
--- no longer than in the answer `memory N`
-number-short : (n : ℕ) → length (numberText n) ≤ 4088
-unfolding said
-number-short n = omega (arith, said-length [] (Memory n) opening [] tt)
-
--- .. as numbers are written, with a name of at most seven letters, as all are that one number follows
-pub number-typed : (name : List ℕ) (n : ℕ) → hasNoGap name ≡ true → isSilent name ≡ false → length name ≤ 7 → n ≤ 0xFFFFFFFF
+-- .. as numbers are written
+pub number-typed : (name : List ℕ) (n : ℕ) → hasNoGap name ≡ true → isSilent name ≡ false → length name ≤ 4075 → n ≤ 0xFFFFFFFF
     → OneNumber (name ++ 32 ∷ numberText n) name n
-number-typed name n g s h fits = one-number name (numberText n) n g s (omega (arith, number-short n)) (number-numeral n fits)
+number-typed name n g s h fits = one-number name (numberText n) n g s (omega (arith, number-length n)) (number-numeral n fits)
 
 -- THE LAW: `packet X`, its number as numbers are written, is heard as that packet; with five digits too
 pub packet-typed : (n : ℕ) → n ≤ 0xFFFFFFFF → boardLine (ascii "packet " ++ numberText n) ≡ Packet n
