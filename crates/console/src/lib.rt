@@ -154,11 +154,19 @@ pub fn next_line(source: &mut [u8], unread: Unread, line: &mut [u8]) -> LineTake
     }
 }
 
+// The text up to a place.
+fn front(text: &[u8], end: usize) -> &[u8]
+    ensures { λ r. ⌜ now r ≡ take end (now (text .entry)) ⌝ }
+{
+    if end < text.len() {
+        return &text[..end];
+    }
+    text
+}
+
 // Writes the text up to a place to a stream. Nothing is to be done where it is closed.
 pub fn write_to(stream: i32, text: &[u8], end: usize) {
-    if end <= text.len() {
-        io::write_all(stream, &text[..end]);
-    }
+    io::write_all(stream, front(text, end));
 }
 
 // To standard output.
