@@ -58,13 +58,25 @@ abbrev pub endsInput : List (List ℕ) → Bool
 endsInput [] = false
 endsInput (piece ∷ earlier) = eachBrought earlier && cond (eqb (length piece) 0) true (eqb (suc (length earlier)) mostReads)
 
+-- nothing is read while a line is there
+abbrev pub Needed : List ℕ → List (List ℕ) → Type 0
+Needed unread [] = Unit {0}
+Needed unread (piece ∷ earlier) = hasEnded (unread ++ allBrought earlier) ≡ false
+
+-- the latest read's bytes stand at the front of the source, up to an end; with no read the source is as it was
+abbrev pub Stands : List (List ℕ) → List ℕ → List ℕ → ℕ → Type 0
+Stands [] source after end = after ≡ source
+Stands (piece ∷ earlier) source after end = piece ≡ take end after
+
 -- the promise of the next line: of the bytes that were unread and those that reads have brought since, the first line is at the front of the buffer and
--- what lies behind it is unread; or none of them ends a line, the input has ended, and they are the last line
-pub record NextMeets (unread before : List ℕ) (r : Input) (after buffer : List ℕ) : Type 0 where
+-- what lies behind it is unread, up to an end in the source; or none of them ends a line, the input has ended, and they are the last line
+pub record NextMeets (source unread before : List ℕ) (r : Input) (left : List ℕ) (end : ℕ) (after buffer : List ℕ) : Type 0 where
   pub reads : List (List ℕ)
   pub came : cond (isLast r) (endsInput reads) (eachBrought reads) ≡ true
+  pub needed : Needed unread reads
+  pub stands : isLast r ≡ false → Stands reads source left end
   pub ended : hasEnded (unread ++ allBrought reads) ≡ cond (isLast r) false true
-  pub left : after ≡ leftOver (unread ++ allBrought reads)
+  pub behind : after ≡ leftOver (unread ++ allBrought reads)
   pub within : heldBytes r ≤ length buffer
   pub line : take (heldBytes r) buffer ≡ heldOf (length buffer) (firstLine (unread ++ allBrought reads))
   pub rest : drop (heldBytes r) buffer ≡ drop (heldBytes r) before

@@ -2,7 +2,7 @@
 use Prim.Native.Nat.{ℕ, zero, suc, _+_, _-_, _≤_, _<_, min}
 use native.Mathlib.Omega.{arith}
 use mathlib.Core.Path.{_≡_, refl, ap, sym, _∙_}
-use mathlib.Core.Bool.{Bool, true, false, cond, _&&_}
+use mathlib.Core.Bool.{Bool, true, false, cond, _&&_, true≢false}
 use mathlib.Core.List.{List, [], _∷_, _++_, append-nil, append-assoc}
 use lib.Dec.{eqb, leb}
 use lib.ListN.{length, take, drop, length-take, length-drop, drop-of-length-le}
@@ -11,11 +11,11 @@ use borrow.Author.Tests.{eq-eqb, ne-eqb, leb-true, leb-false}
 use Rattle.console.specs.declared.Cut.{Cut}
 use Rattle.console.specs.declared.Input.{Input}
 use Rattle.console.specs.declared.Input.the-variants.{Line, Last}
-use Rattle.console.specs.InputLines.{isLineEnd, firstLine, hasEnded, leftOver}
+use Rattle.console.specs.InputLines.{isLineEnd, firstLine, hasEnded}
 use Rattle.console.specs.InputLineLaws.{open-line, pieces-join, left-behind}
 use Rattle.console.specs.Holding.{heldOf}
 use Rattle.console.specs.HoldingLaws.{held-on-both, further}
-use Rattle.console.specs.LineReading.{CutMeets, NextMeets, unreadOf, heldBytes, allBrought, eachBrought, mostReads, endsInput}
+use Rattle.console.specs.LineReading.{CutMeets, Needed, Stands, NextMeets, unreadOf, heldBytes, allBrought, eachBrought, mostReads, endsInput}
 
 -- of all bytes that have come none ends a line, and so many of them are held; what lies behind those is as it was
 pub record Gathered (before all buffer : List ℕ) (had : ℕ) : Type 0 where
@@ -46,32 +46,37 @@ module _ {before all line piece after : List ℕ} {had : ℕ} {r : Cut} (g : Gat
         rest = behind-piece;
       }
 
-  piece-ends : (unread : List ℕ) (reads : List (List ℕ)) → unread ++ allBrought reads ≡ all ++ piece → eachBrought reads ≡ true → r .ended ≡ true
-      → NextMeets unread before (Line (r .held)) (drop (r .taken) piece) after
-  piece-ends unread reads q each e =
+  piece-ends : {source left : List ℕ} {end : ℕ} (unread : List ℕ) (reads : List (List ℕ)) → unread ++ allBrought reads ≡ all ++ piece
+      → eachBrought reads ≡ true → Needed unread reads → Stands reads source left end → r .ended ≡ true
+      → NextMeets source unread before (Line (r .held)) left end (drop (r .taken) piece) after
+  piece-ends unread reads q each need stand e =
       let some : hasEnded piece ≡ true = sym (m .ended) ∙ e in
       let join = pieces-join all piece (g .goes-on) in
       let here : r .taken ≡ length (firstLine piece) + 1 = m .taken ∙ rw some in
       record {
         reads = reads;
         came = each;
+        needed = need;
+        stands = λ l. stand;
         ended = rw q (join .1 ∙ some);
-        left = rw (q, here) (left-behind piece some ∙ sym (join .2));
+        behind = rw (q, here) (left-behind piece some ∙ sym (join .2));
         within = m .within;
         line = rw (q, join .0) with-piece;
         rest = behind-piece;
       }
 
 -- the input has ended: all that came is the last line
-input-ends : {before first line : List ℕ} {had : ℕ} (unread : List ℕ) (reads : List (List ℕ)) → unread ≡ first → endsInput reads ≡ true
-    → Gathered before (first ++ allBrought reads) line had → NextMeets unread before (Last had) [] line
-input-ends {before} {first} {line} {had} unread reads q e g =
+input-ends : {source left before first line : List ℕ} {had end : ℕ} (unread : List ℕ) (reads : List (List ℕ)) → unread ≡ first → endsInput reads ≡ true
+    → Needed unread reads → Gathered before (first ++ allBrought reads) line had → NextMeets source unread before (Last had) left end [] line
+input-ends {first = first} unread reads q e need g =
     let whole = open-line (first ++ allBrought reads) (g .goes-on) in
     record {
       reads = reads;
       came = e;
+      needed = need;
+      stands = λ l. absurd (true≢false l);
       ended = rw q (g .goes-on);
-      left = rw q (sym (whole .1));
+      behind = rw q (sym (whole .1));
       within = g .within;
       line = rw (q, whole .0) (g .line);
       rest = g .rest;
@@ -105,8 +110,9 @@ module _ {line piece after : List ℕ} {r : Cut} (size : length after ≡ length
         gathered = rw (append-nil piece) (record { goes-on = g .goes-on; within = g .within; line = g .line; rest = refl });
       }
 
-  pub first-ends : (unread : List ℕ) → unread ≡ piece → r .ended ≡ true → NextMeets unread line (Line (r .held)) (drop (r .taken) piece) after
-  first-ends unread q e = piece-ends (gathers-nothing line) size m unread [] (append-nil unread ∙ q) refl e
+  pub first-ends : (source : List ℕ) (end : ℕ) (unread : List ℕ) → unread ≡ piece → r .ended ≡ true
+      → NextMeets source unread line (Line (r .held)) source end (drop (r .taken) piece) after
+  first-ends source end unread q e = piece-ends (gathers-nothing line) size m unread [] (append-nil unread ∙ q) refl tt refl e
 
 some-bytes : (bytes : List ℕ) → hasEnded bytes ≡ true → eqb (length bytes) 0 ≡ false
 some-bytes [] e = cc
@@ -128,34 +134,58 @@ module _ {before first line piece after : List ℕ} {had budget : ℕ} {r : Cut}
         gathered = rw joins (piece-goes-on (g .gathered) size m e);
       }
 
-  pub next-ends : (unread : List ℕ) → unread ≡ first → r .ended ≡ true → NextMeets unread before (Line (r .held)) (drop (r .taken) piece) after
-  next-ends unread q e =
-      let brought : eqb (length piece) 0 ≡ false = some-bytes piece (sym (m .ended) ∙ e) in
-      piece-ends (g .gathered) size m unread (piece ∷ g .reads) (rw q joins) (rw brought (g .each)) e
+  open-before : (unread : List ℕ) → unread ≡ first → hasEnded (unread ++ allBrought (g .reads)) ≡ false
+  open-before unread q = rw q (g .gathered .goes-on)
 
-  pub nothing-came : (unread : List ℕ) → unread ≡ first → r .ended ≡ false → r .none ≡ true → NextMeets unread before (Last (r .held)) [] after
+  pub next-ends : (source left : List ℕ) (end : ℕ) (unread : List ℕ) → unread ≡ first → piece ≡ take end left → r .ended ≡ true
+      → NextMeets source unread before (Line (r .held)) left end (drop (r .taken) piece) after
+  next-ends source left end unread q p e =
+      let brought : eqb (length piece) 0 ≡ false = some-bytes piece (sym (m .ended) ∙ e) in
+      piece-ends (g .gathered) size m unread (piece ∷ g .reads) (rw q joins) (rw brought (g .each)) (open-before unread q) p e
+
+  pub nothing-came : {source left : List ℕ} {end : ℕ} (unread : List ℕ) → unread ≡ first → r .ended ≡ false → r .none ≡ true
+      → NextMeets source unread before (Last (r .held)) left end [] after
   nothing-came unread q e n =
       let none : eqb (length piece) 0 ≡ true = sym (m .none) ∙ n in
       let all : Gathered before (first ++ allBrought (piece ∷ g .reads)) after (r .held) = rw joins (piece-goes-on (g .gathered) size m e) in
-      input-ends unread (piece ∷ g .reads) q (rw (g .each, none)) all
+      input-ends unread (piece ∷ g .reads) q (rw (g .each, none)) (open-before unread q) all
 
 -- a buffer in which less was held before
-pub held-before : {unread line after buffer : List ℕ} {r : Input} (had : ℕ) (before : List ℕ) → had ≤ heldBytes r → drop had line ≡ drop had before
-    → NextMeets unread line r after buffer → NextMeets unread before r after buffer
+pub held-before : {source unread line left after buffer : List ℕ} {r : Input} {end : ℕ} (had : ℕ) (before : List ℕ) → had ≤ heldBytes r
+    → drop had line ≡ drop had before → NextMeets source unread line r left end after buffer → NextMeets source unread before r left end after buffer
 held-before {line = line} {r = r} had before more e n =
     record {
       reads = n .reads;
       came = n .came;
+      needed = n .needed;
+      stands = n .stands;
       ended = n .ended;
-      left = n .left;
+      behind = n .behind;
       within = n .within;
       line = n .line;
       rest = n .rest ∙ further had (heldBytes r) line before more e;
     }
 
-pub budget-ends : {before first line : List ℕ} {had budget : ℕ} (unread : List ℕ) → unread ≡ first → budget ≤ 0
-    → Reading before first line had budget → NextMeets unread before (Last had) [] line
-budget-ends unread q none g = input-ends unread (g .reads) q (used-up (g .reads) (g .each) (omega (arith, g .count))) (g .gathered)
+-- what has no end has none in its front
+front-open : (bytes more : List ℕ) → hasEnded (bytes ++ more) ≡ false → hasEnded bytes ≡ false
+front-open [] more e = refl
+front-open (byte ∷ bytes) more e = by-test (front-open bytes more) (isLineEnd byte) e
+  where
+    by-test : (hasEnded (bytes ++ more) ≡ false → hasEnded bytes ≡ false) → (t : Bool) → cond t true (hasEnded (bytes ++ more)) ≡ false
+        → cond t true (hasEnded bytes) ≡ false
+    by-test on true f = cc
+    by-test on false f = on f
+
+open-earlier : (unread : List ℕ) (reads : List (List ℕ)) → hasEnded (unread ++ allBrought reads) ≡ false → Needed unread reads
+open-earlier unread [] e = tt
+open-earlier unread (piece ∷ earlier) e =
+    front-open (unread ++ allBrought earlier) piece (ap hasEnded (append-assoc unread (allBrought earlier) piece) ∙ e)
+
+pub budget-ends : {source left before first line : List ℕ} {had budget end : ℕ} (unread : List ℕ) → unread ≡ first → budget ≤ 0
+    → Reading before first line had budget → NextMeets source unread before (Last had) left end [] line
+budget-ends unread q none g =
+    input-ends unread (g .reads) q (used-up (g .reads) (g .each) (omega (arith, g .count))) (open-earlier unread (g .reads) (rw q (g .gathered .goes-on)))
+    (g .gathered)
 
 -- what is unread by its two places, the end no further than the source and the start no further than the end
 min-within : (source : List ℕ) (at end : ℕ)

@@ -1,7 +1,7 @@
 -- Laws of lines served one after the other: what they come to is what the lines of all that was unread and all that reads have brought come to.
 use Prim.Native.Nat.{ℕ, suc, _-_, _≤_, _<_}
 use native.Mathlib.Omega.{arith}
-use mathlib.Core.Path.{_≡_, refl, ap, sym, _∙_}
+use mathlib.Core.Path.{_≡_, ap, sym, _∙_}
 use mathlib.Core.List.{List, [], _∷_, _++_, append-nil, append-assoc}
 use lib.ListN.{take}
 use lib.Seq.{take-nil}
@@ -33,9 +33,9 @@ module _ {A : Type 0} {whole here : List (List ℕ) → A} {start unread : List 
   first-of : 0 < left → (line : List ℕ) (lines : List (List ℕ)) → take left (line ∷ lines) ≡ line ∷ take (left - 1) lines
   first-of some line lines = let e : left ≡ suc (left - 1) = omega arith in ap (λ (n : ℕ). take n (line ∷ lines)) e
 
-  module _ (some : 0 < left) {before after buffer : List ℕ} {held : ℕ} where
+  module _ (some : 0 < left) {source before lent after buffer : List ℕ} {held end : ℕ} where
     -- one line more, which leads on
-    pub line-served : (n : NextMeets unread before (Line held) after buffer) (next : List (List ℕ) → A)
+    pub line-served : (n : NextMeets source unread before (Line held) lent end after buffer) (next : List (List ℕ) → A)
         → ((lines : List (List ℕ)) → here (firstLine (unread ++ allBrought (n .reads)) ∷ lines) ≡ next lines) → Comes whole start next (left - 1) after
     line-served n next leads =
         let more = allBrought (n .reads) in
@@ -45,18 +45,18 @@ module _ {A : Type 0} {whole here : List (List ℕ) → A} {start unread : List 
               ∙ ap (λ (ls : List (List ℕ)). here (take left ls)) (ended-line (unread ++ more) rest (n .ended))
               ∙ ap here (first-of some (firstLine (unread ++ more)) (linesOf (leftOver (unread ++ more) ++ rest)))
               ∙ leads (take (left - 1) (linesOf (leftOver (unread ++ more) ++ rest)))
-              ∙ rw (n .left);
+              ∙ rw (n .behind);
         }
 
     -- one that is the last to be served
-    pub quit-served : (n : NextMeets unread before (Line held) after buffer) (value : A)
+    pub quit-served : (n : NextMeets source unread before (Line held) lent end after buffer) (value : A)
         → ((lines : List (List ℕ)) → here (firstLine (unread ++ allBrought (n .reads)) ∷ lines) ≡ value) → Ends whole start value
     quit-served n value leads =
         let next = line-served n (λ lines. value) leads in
         (next .brought ++ [], next .goes-on [])
 
     -- the last line of the input
-    pub last-served : (n : NextMeets unread before (Last held) after buffer) (value : A) → here ((unread ++ allBrought (n .reads)) ∷ []) ≡ value
+    pub last-served : (n : NextMeets source unread before (Last held) lent end after buffer) (value : A) → here ((unread ++ allBrought (n .reads)) ∷ []) ≡ value
         → Ends whole start value
     last-served n value leads =
         let more = allBrought (n .reads) in

@@ -110,8 +110,8 @@ fn least(end: usize, most: usize) -> usize
 
 // The next line without its line end. The budget of reads is never used up.
 pub fn next_line(source: &mut [u8], unread: Unread, line: &mut [u8]) -> LineTaken
-    ensures { λ r. ⌜ NextMeets (unreadOf (now (source .entry)) (unread .at) (unread .end)) (now (line .entry)) (r .input)
-        (unreadOf (now (source .exit)) (r .unread .at) (r .unread .end)) (now (line .exit)) ⌝ }
+    ensures { λ r. ⌜ NextMeets (now (source .entry)) (unreadOf (now (source .entry)) (unread .at) (unread .end)) (now (line .entry)) (r .input)
+        (now (source .exit)) (r .unread .end) (unreadOf (now (source .exit)) (r .unread .at) (r .unread .end)) (now (line .exit)) ⌝ }
 {
     let end = least(unread.end, source.len());
     let at = least(unread.at, end);

@@ -3,7 +3,7 @@ use Prim.Native.Nat.{ℕ, _-_, _≤_, _<_}
 use native.Mathlib.Omega.{arith}
 use mathlib.Core.Path.{_≡_, refl, ap, sym, _∙_}
 use mathlib.Core.Bool.{Bool, true, false, cond}
-use mathlib.Core.List.{List, [], _∷_, _++_, append-assoc, append-nil}
+use mathlib.Core.List.{List, [], _∷_, _++_, append-nil}
 use lib.ListN.{length, take}
 use lib.Seq.{length-sets}
 use Rattle.words.specs.declared.LineKind.{LineKind}
@@ -181,10 +181,10 @@ module _ (language : Language) (start : List ℕ) (before : Bench) (began buffer
       }
 
   module _ {fewer : ℕ} {unread m text : List ℕ} {bench : Bench} (c : Came language start before began buffer fewer unread bench m text)
-      (more : 0 < fewer) {held : ℕ} {was line behind after spoken : List ℕ} {r : Served} (some : 4096 < length line)
+      (more : 0 < fewer) {held end : ℕ} {source was lent line behind after spoken : List ℕ} {r : Served} (some : 4096 < length line)
       (s : ServedMeets language (take held line) bench m text r after spoken) where
     -- what the line leaves and says
-    pub line-comes : NextMeets unread was (Line held) behind line → r .over ≡ false
+    pub line-comes : NextMeets source unread was (Line held) lent end behind line → r .over ≡ false
         → Came language start before began buffer (fewer - 1) behind (r .bench) after spoken
     line-comes n e =
         let first = firstLine (unread ++ allBrought (n .reads)) in
@@ -198,7 +198,8 @@ module _ (language : Language) (start : List ℕ) (before : Bench) (began buffer
         (ap (λ (l : List ℕ). (course language lines (next .bench) (next .memory), l))
         (laid-on text said (answerLines language lines (next .bench) (next .memory)))))
 
-    pub quit-comes : NextMeets unread was (Line held) behind line → r .over ≡ true → CourseMeets language start before began buffer (r .bench) after spoken
+    pub quit-comes : NextMeets source unread was (Line held) lent end behind line → r .over ≡ true
+        → CourseMeets language start before began buffer (r .bench) after spoken
     quit-comes n e =
         let first = firstLine (unread ++ allBrought (n .reads)) in
         let served = served-line (length line) first some (n .line) s in
@@ -208,7 +209,7 @@ module _ (language : Language) (start : List ℕ) (before : Bench) (began buffer
         (quit-served c more n (left (r .bench) after, spoken)
         (λ lines. rw (over, served .board, served .memory, served .said, nothing, append-nil (answerLine (toldText language first bench m)))))
 
-    pub last-comes : NextMeets unread was (Last held) behind line → CourseMeets language start before began buffer (r .bench) after spoken
+    pub last-comes : NextMeets source unread was (Last held) lent end behind line → CourseMeets language start before began buffer (r .bench) after spoken
     last-comes n =
         let all = unread ++ allBrought (n .reads) in
         let first = open-line all (n .ended) .0 in

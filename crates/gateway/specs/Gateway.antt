@@ -1,11 +1,15 @@
--- The desk's language, `gateway`: all that it writes, by what is asked and what comes in.
-use Prim.Native.Nat.{ℕ}
+-- The desk's language, `gateway`: what it is asked, and all that it writes by what is asked and what comes in.
+use Prim.Native.Nat.{ℕ, _+_}
+use mathlib.Core.Path.{_≡_}
+use mathlib.Core.Bool.{cond}
 use mathlib.Core.List.{List, [], _∷_, _++_}
+use lib.Dec.{eqb, ltb}
 use lib.ListN.{length, replicate}
 use Rattle.refusal_text.specs.RefusalText.{unclearText}
 use Rattle.console.specs.LineWriting.{lineEnd}
 use Rattle.console.specs.InputLines.{linesServed}
 use Rattle.numbers.specs.Numbers.{numeral}
+use Rattle.asked.specs.VisitRequests.{registersAsked}
 use Rattle.visit.specs.declared.Visit.{Visit}
 use Rattle.visit.specs.declared.Started.{Started}
 use Rattle.visit.specs.declared.Started.the-variants.{Begun, Refused}
@@ -16,34 +20,47 @@ use Rattle.reply_lines.specs.declared.TableAsked.the-variants.{Table, Unclear}
 use Rattle.reply_lines.specs.ReplyLines.{tableOf}
 use Rattle.gateway.specs.Visiting.{Standing, standing, course, packetLines}
 
--- the promise of what is asked: "Arguments: none, or ADDRESS LONGWORDS"
-pub data AskedMeets : TableAsked → Type 0 where
-  none : AskedMeets (Table 0 0)
-  two : (address longwords : List ℕ) → AskedMeets (tableOf (numeral address) (numeral longwords))
-  other : AskedMeets Unclear
+-- ---- what is asked
+-- "Arguments: none, or ADDRESS LONGWORDS": by how many words there are, the program's name among them, and the two behind it
+abbrev pub askedBy : ℕ → List ℕ → List ℕ → TableAsked
+askedBy count address longwords = cond (ltb count 2) (Table 0 0) (cond (eqb count 3) (tableOf (numeral address) (numeral longwords)) Unclear)
 
+-- the promise: of some words it is what they ask
+pub record AskedMeets (asked : TableAsked) : Type 0 where
+  pub count : ℕ
+  pub address : List ℕ
+  pub longwords : List ℕ
+  pub asks : asked ≡ askedBy count address longwords
+
+-- ---- what is written
 abbrev pub unclearLine : List ℕ
 unclearLine = unclearText ++ lineEnd
 
 -- a place for each result of the largest table
 abbrev pub noNotes : List ℕ
-noNotes = replicate 65563 0
+noNotes = replicate (registersAsked + 65536) 0
 
 -- where the visit stands at the end, all bytes that came being these
-abbrev pub ending : Visit → List ℕ → Standing
-ending v brought = course (linesServed [] brought) (standing v noNotes)
+abbrev pub ending : Visit → List ℕ → List ℕ → Standing
+ending v notes brought = course (linesServed [] brought) (standing v notes)
 
--- its packets, and then what it came to
-abbrev pub visitLines : Visit → List ℕ → List (List ℕ)
-visitLines v brought =
-    packetLine v ++ packetLines (linesServed [] brought) (standing v noNotes) ++ endLines (ending v brought .visit) (ending v brought .notes)
+-- "It writes `packet X` lines to standard output", the first before anything has come in
+abbrev pub sentOf : Visit → List ℕ → List ℕ → List (List ℕ)
+sentOf v notes brought = packetLine v ++ packetLines (linesServed [] brought) (standing v notes)
 
--- what cannot be asked is `unclear`, and nothing is sent
-abbrev pub startedLines : Started → List ℕ → List (List ℕ)
-startedLines (Begun v) brought = visitLines v brought
-startedLines (Refused ground) brought = unclearLine ∷ []
+abbrev pub sentBy : Started → List ℕ → List (List ℕ)
+sentBy (Begun v) brought = sentOf v noNotes brought
+sentBy (Refused ground) brought = []
 
--- all that is written
-abbrev pub gatewayLines : TableAsked → List ℕ → List (List ℕ)
-gatewayLines (Table address longwords) brought = startedLines (startOf address longwords (length noNotes)) brought
-gatewayLines Unclear brought = unclearLine ∷ []
+abbrev pub sentLines : TableAsked → List ℕ → List (List ℕ)
+sentLines (Table address longwords) brought = sentBy (startOf address longwords (length noNotes)) brought
+sentLines Unclear brought = []
+
+-- "What it read goes to standard error when the visit is over"; what cannot be asked is `unclear`
+abbrev pub toldBy : Started → List ℕ → List (List ℕ)
+toldBy (Begun v) brought = endLines (ending v noNotes brought .visit) (ending v noNotes brought .notes)
+toldBy (Refused ground) brought = unclearLine ∷ []
+
+abbrev pub toldLines : TableAsked → List ℕ → List (List ℕ)
+toldLines (Table address longwords) brought = toldBy (startOf address longwords (length noNotes)) brought
+toldLines Unclear brought = unclearLine ∷ []

@@ -43,14 +43,18 @@ abbrev pub packetLines : List (List ℕ) → Standing → List (List ℕ)
 packetLines [] s = []
 packetLines (line ∷ lines) s = cond (isOver (s .visit .stage)) [] (followed (replyLine line) (s .visit) ++ packetLines lines (afterLine line s))
 
--- the promise of a line: the visit, its notes, and the packet that follows at the front of the text
-pub record LineMeets (line : List ℕ) (v : Visit) (before buffer : List ℕ) (r : Visit) (after text : List ℕ) : Type 0 where
+-- the packet that the visit sends now stands at the front of the buffer, with its line end
+abbrev pub Shows : Visit → List ℕ → Type 0
+Shows v buffer = buffer ≡ laid buffer (packetLine v)
+
+-- the promise of a line: the visit, its notes, and the packet that follows at the front of the buffer
+pub record LineMeets (line : List ℕ) (v : Visit) (before buffer : List ℕ) (r : Visit) (after packet : List ℕ) : Type 0 where
   pub leaves : standing r after ≡ afterLine line (standing v before)
-  pub said : text ≡ laid buffer (followed (replyLine line) v)
+  pub said : packet ≡ laid buffer (followed (replyLine line) v)
 
 -- the promise of a visit held over standard input: it and its notes are what the lines of what was unread and of some bytes, which reads have brought, make
--- of them, and the packets that follow them were put at the front of the text in their order
-pub record VisitMeets (unread : List ℕ) (v : Visit) (before buffer : List ℕ) (r : Visit) (after text : List ℕ) : Type 0 where
+-- of them; the packets that follow them were put at the front of the buffer, each over the one before it
+pub record VisitMeets (unread : List ℕ) (v : Visit) (before buffer : List ℕ) (r : Visit) (after packet : List ℕ) : Type 0 where
   pub brought : List ℕ
   pub leaves : standing r after ≡ course (linesServed unread brought) (standing v before)
-  pub said : text ≡ laid buffer (packetLines (linesServed unread brought) (standing v before))
+  pub said : packet ≡ laid buffer (packetLines (linesServed unread brought) (standing v before))

@@ -83,9 +83,9 @@ module _ (start : List ℕ) (from : Standing) (buffer : List ℕ) where
     pub over-comes : isOver (s .visit .stage) ≡ true → VisitMeets start (from .visit) (from .notes) buffer (s .visit) (s .notes) text
     over-comes t = ends-visit (s .visit) (s .notes) text (over-served c (s, text) (over-stays s text t))
 
-    module _ (goes-on : isOver (s .visit .stage) ≡ false) (more : 0 < left) {held : ℕ} {was line behind after spoken : List ℕ} {r : Visit}
+    module _ (goes-on : isOver (s .visit .stage) ≡ false) (more : 0 < left) {held end : ℕ} {source was lent line behind after spoken : List ℕ} {r : Visit}
         (some : 4096 < length line) (m : LineMeets (take held line) (s .visit) (s .notes) text r after spoken) where
-      pub line-comes : NextMeets unread was (Line held) behind line → Came start from buffer (left - 1) behind (standing r after) spoken
+      pub line-comes : NextMeets source unread was (Line held) lent end behind line → Came start from buffer (left - 1) behind (standing r after) spoken
       line-comes n =
           let first = firstLine (unread ++ allBrought (n .reads)) in
           let same : replyLine (take held line) ≡ replyLine first = ap replyLine (n .line) ∙ held-line (length line) first some in
@@ -97,7 +97,7 @@ module _ (start : List ℕ) (from : Standing) (buffer : List ℕ) where
           (ap (λ (l : List ℕ). (course lines (afterLine first s), l))
           (laid-on text (followed (replyLine first) (s .visit)) (packetLines lines (afterLine first s)))))
 
-      pub last-comes : NextMeets unread was (Last held) behind line → (over : Visit) → over ≡ lost r
+      pub last-comes : NextMeets source unread was (Last held) lent end behind line → (over : Visit) → over ≡ lost r
           → VisitMeets start (from .visit) (from .notes) buffer over after spoken
       last-comes n over e =
           let all = unread ++ allBrought (n .reads) in

@@ -1,14 +1,12 @@
 -- Laws of the lister's lines gathered in the text: item by item, of a whole trace and of a listing.
 use Prim.Native.Nat.{ℕ, suc, _+_, _-_, _*_, _/_, _≤_, _<_}
 use mathlib.Core.Path.{_≡_, refl, ap, sym, _∙_}
-use mathlib.Core.Bool.{Bool, true, false, cond}
-use mathlib.Core.List.{List, [], _∷_, _++_}
+use mathlib.Core.List.{List, [], _∷_}
 use native.Mathlib.Omega.{arith}
 use native.Mathlib.Numerals.{add-one}
-use lib.Dec.{ltb}
 use lib.ListN.{length, getD, take, drop, length-drop}
-use lib.Seq.{drop-cons, length-sets}
-use borrow.Author.Tests.{lt-ltb, le-ltb, ltb-true, ltb-false}
+use lib.Seq.{drop-cons}
+use borrow.Author.Tests.{lt-ltb, le-ltb}
 use Rattle.grounds.specs.declared.Ground.{Ground}
 use Rattle.grounds.specs.Grounds.{number}
 use Rattle.cycle.specs.declared.Item.{Item}
@@ -22,8 +20,7 @@ use Rattle.steps.specs.declared.Cursor.{Cursor}
 use Rattle.steps.specs.declared.Handed.the-variants.{Item as oneItem}
 use Rattle.steps.specs.WalkStep.{StartMeets, stepOf}
 use Rattle.walk.specs.WalkRestLaws.{rest, none-past, Unrolls, step-unrolls}
-use Rattle.text.specs.Text.{written, Puts}
-use Rattle.text.specs.TextLaws.{_then_, nothing as puts-nothing}
+use Rattle.text.specs.Text.{written}
 use Rattle.console.specs.LineWriting.{laid}
 use Rattle.trace_list.specs.ListerLines.{itemLine, itemLines, refusedLine, headLine}
 use Rattle.console.specs.GatheringMirror.{parts}

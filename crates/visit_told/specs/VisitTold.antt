@@ -1,11 +1,10 @@
 -- What `gateway` says of a stand-in that it reads (docs/gateway.md): a line for each outcome in turn, and the number of packets.
-use Prim.Native.Nat.{ℕ, suc, _+_, _*_}
+use Prim.Native.Nat.{ℕ, suc}
 use mathlib.Core.List.{List, [], _∷_, _++_}
 use Rattle.readings.specs.declared.Outcome.{Outcome}
 use Rattle.board.specs.State.{State}
 use Rattle.text.specs.Text.{ascii}
-use Rattle.console.specs.LineWriting.{lineEnd}
-use Rattle.visit_text.specs.VisitText.{tableText, valueText, resultText, readText}
+use Rattle.visit_text.specs.VisitText.{tableText, valueText, resultText}
 use Rattle.visit_lines.specs.VisitLines.{endLines}
 use Rattle.joined.specs.VisitReads.{visited}
 

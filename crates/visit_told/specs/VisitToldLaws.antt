@@ -1,5 +1,5 @@
 -- Laws of what `gateway` says of a stand-in: what its requests mean in turn, each longword with its own address.
-use Prim.Native.Nat.{ℕ, zero, suc, _+_, _-_, _*_, _%_, _^_, _≤_, _<_}
+use Prim.Native.Nat.{ℕ, zero, suc, _+_, _-_, _*_, _^_, _≤_, _<_}
 use native.Mathlib.Omega.{arith}
 use native.Mathlib.Nat.{zero-add, mod-eq-of-lt}
 use mathlib.Core.Path.{_≡_, refl, ap, sym, _∙_}
@@ -27,7 +27,7 @@ use Rattle.round_trip.specs.BroughtToRest.{restScene}
 use Rattle.visit_course.specs.VisitCourse.{courseOf}
 use Rattle.console.specs.LineWriting.{lineEnd}
 use Rattle.visit_text.specs.VisitText.{tableText, subjectText, valueText, resultText, readText}
-use Rattle.visit_lines.specs.VisitLines.{resultLines, endLines}
+use Rattle.visit_lines.specs.VisitLines.{resultLines}
 use Rattle.joined.specs.Joined.{Joined}
 use Rattle.joined.specs.VisitReads.{visited}
 use Rattle.joined.specs.VisitReadsLaws.{visit-joined, visit-reads}

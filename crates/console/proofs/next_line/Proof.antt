@@ -1,9 +1,7 @@
 use Prim.Native.Nat.{_≤_}
-use mathlib.Core.Path.{_≡_, refl, ap, sym, _∙_}
-use mathlib.Core.List.{List, _++_}
+use mathlib.Core.Path.{_≡_, refl, _∙_}
 use native.Mathlib.Omega.{arith}
 use lib.ListN.{length, length-take}
-use Prim.Native.Nat.{ℕ}
 use Rattle.console.specs.LineReading.{unreadOf, mostReads}
 use Rattle.console.specs.LineReadingLaws.{Reading, first-goes-on, next-goes-on, first-ends, next-ends, nothing-came, budget-ends, held-before, unread-within, unread-later, taken-within, drop-take}
 use borrow.Author.Needs.{needs}
@@ -57,7 +55,7 @@ returns c =
     let end = c .before .before .before .before .before .before .before .before .before .least in
     let at = c .before .before .before .before .before .before .before .before .least2 in
     let cut = c .before .before .before .before .cut-line in
-    rw (unread-later (start .source .now) (at .result) (end .result) (cut .result .taken)) at (first-ends (cut .kept .1 .0) (cut .ensures) (unreadOf (start .source .now) (start .unread .at) (start .unread .end))
+    rw (unread-later (start .source .now) (at .result) (end .result) (cut .result .taken)) at (first-ends (cut .kept .1 .0) (cut .ensures) (start .source .now) (end .result) (unreadOf (start .source .now) (start .unread .at) (start .unread .end))
     (unread-within (start .source .now) (start .unread .at) (start .unread .end) (at .result) (end .result) (end .ensures) (at .ensures)) (c .before .if1 .taken))
 
 loop-holds : tie.Need-loop-holds Inv-loop μ-loop
@@ -91,11 +89,12 @@ returns-2 c =
     let first = c .before .before .before .before .before .before .before .before .before .before .before .before .before .before .before .cut-line in
     let here = c .before .before .before .before .before .before .before .before .before .before .before .loop in
     rw (drop-take _ _ _) at (held-before (first .result .held) (start .line .now) (omega (arith, here .inv .2, c .before .before .before .cut-line2 .ensures .more)) (first .ensures .rest) (next-ends (here .inv .3)
-    (c .before .before .before .cut-line2 .kept .1 .0) (c .before .before .before .cut-line2 .ensures) (unreadOf (start .source .now) (start .unread .at) (start .unread .end))
+    (c .before .before .before .cut-line2 .kept .1 .0) (c .before .before .before .cut-line2 .ensures) (start .source .now) (c .before .before .before .before .before .before .before .before .refill .last .0)
+    (c .before .before .before .before .before .before .before .before .refill .result) (unreadOf (start .source .now) (start .unread .at) (start .unread .end))
     (unread-within (start .source .now) (start .unread .at) (start .unread .end) (c .before .before .before .before .before .before .before .before .before .before .before .before .before .before .before .before .before .before .before .least2 .result)
     (c .before .before .before .before .before .before .before .before .before .before .before .before .before .before .before .before .before .before .before .before .least .result)
     (c .before .before .before .before .before .before .before .before .before .before .before .before .before .before .before .before .before .before .before .before .least .ensures)
-    (c .before .before .before .before .before .before .before .before .before .before .before .before .before .before .before .before .before .before .before .least2 .ensures)) (c .if2 .taken)))
+    (c .before .before .before .before .before .before .before .before .before .before .before .before .before .before .before .before .before .before .before .least2 .ensures)) refl (c .if2 .taken)))
 
 same-length-5 : tie.Need-same-length-5 Inv-loop μ-loop
 same-length-5 c = search needs

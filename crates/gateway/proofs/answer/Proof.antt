@@ -1,4 +1,5 @@
 use mathlib.Core.List.{[]}
+use mathlib.Core.Path.{refl}
 use borrow.Author.Needs.{needs}
 use Rattle.gateway.proofs.answer.Statement.{statement}
 use Rattle.gateway.proofs.answer.Tie as tie
@@ -19,13 +20,16 @@ same-length : tie.Need-same-length
 same-length c = search needs
 
 returns : tie.Need-returns
-returns c = rw (c .before .before .before .before .enum-told .given .1) (record { brought = []; said = c .before .before .tell-unclear .ensures })
+returns c = rw (c .before .before .before .before .enum-told .given .1) (record { brought = []; sent = refl; told = c .before .before .tell-unclear .ensures })
 
 same-length-2 : tie.Need-same-length-2
 same-length-2 c = search needs
 
+same-length-3 : tie.Need-same-length-3
+same-length-3 c = search needs
+
 returns-2 : tie.Need-returns-2
-returns-2 c = rw (c .before .before .before .before .before .asked .given .1) (c .before .before .visit-gateway .ensures)
+returns-2 c = rw (c .before .before .before .before .before .before .before .before .asked .given .1) (c .before .before .before .before .visit-gateway .ensures)
 
 pub answer-spec : {M : Type 1} → statement M
 answer-spec =
@@ -38,4 +42,5 @@ answer-spec =
     same-length
     returns
     same-length-2
+    same-length-3
     returns-2)

@@ -1,4 +1,5 @@
-use Rattle.gateway.specs.GatewayLaws.{held-visit}
+use native.Mathlib.Omega.{arith}
+use Rattle.gateway.specs.GatewayLaws.{held-visit, put-shows}
 use borrow.Author.Needs.{needs}
 use Rattle.gateway.proofs.hold_visit.Statement.{statement}
 use Rattle.gateway.proofs.hold_visit.Tie as tie
@@ -13,7 +14,7 @@ slice-aggregate-take-lines-2 : tie.Need-slice-aggregate-take-lines-2
 slice-aggregate-take-lines-2 c = search needs
 
 take-lines-requires : tie.Need-take-lines-requires
-take-lines-requires c κs = search needs
+take-lines-requires c κs = (omega arith, put-shows _ _ (c .before .before .before .before .before .before .send .ensures))
 
 tell-end-requires : tie.Need-tell-end-requires
 tell-end-requires c κs = search needs
@@ -23,6 +24,9 @@ same-length c = search needs
 
 same-length-2 : tie.Need-same-length-2
 same-length-2 c = search needs
+
+same-length-3 : tie.Need-same-length-3
+same-length-3 c = search needs
 
 returns : tie.Need-returns
 returns c = held-visit (c .before .before .before .before .before .before .before .before .before .before .before .before .before .before .before .before .before .before .send .ensures)
@@ -39,4 +43,5 @@ hold-visit-spec =
     tell-end-requires
     same-length
     same-length-2
+    same-length-3
     returns)

@@ -28,18 +28,32 @@ same-length : tie.Need-same-length
 same-length c = search needs
 
 returns : tie.Need-returns
-returns c = record { brought = []; said = rw (← c .before .before .before .before .before .before .start .ensures, c .before .before .before .before .enum-told .given .1) (c .before .before .tell-unclear .ensures) }
+returns c = record {
+  brought = [];
+  sent = rw (← c .before .before .before .before .before .before .start .ensures, c .before .before .before .before .enum-told .given .1);
+  told = rw (
+    ← c .before .before .before .before .before .before .start .ensures,
+    c .before .before .before .before .enum-told .given .1,
+  ) (c .before .before .tell-unclear .ensures);
+}
 
 same-length-2 : tie.Need-same-length-2
 same-length-2 c = search needs
 
+same-length-3 : tie.Need-same-length-3
+same-length-3 c = search needs
+
 returns-2 : tie.Need-returns-2
-returns-2 c = let held = c .before .before .before .hold-visit .ensures in record {
+returns-2 c = let held = c .before .before .before .before .before .hold-visit .ensures in record {
   brought = held .brought;
-  said = rw (
-    ← c .before .before .before .before .before .before .before .before .before .start .ensures,
-    c .before .before .before .before .before .before .before .started .given .1,
-  ) (held .said);
+  sent = rw (
+    ← c .before .before .before .before .before .before .before .before .before .before .before .before .start .ensures,
+    c .before .before .before .before .before .before .before .before .before .before .started .given .1,
+  ) (held .sent);
+  told = rw (
+    ← c .before .before .before .before .before .before .before .before .before .before .before .before .start .ensures,
+    c .before .before .before .before .before .before .before .before .before .before .started .given .1,
+  ) (held .told);
 }
 
 pub visit-gateway-spec : {M : Type 1} → statement M
@@ -56,4 +70,5 @@ visit-gateway-spec =
     same-length
     returns
     same-length-2
+    same-length-3
     returns-2)
