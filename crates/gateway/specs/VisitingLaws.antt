@@ -21,8 +21,9 @@ use Rattle.console.specs.LineWriting.{laid}
 use Rattle.console.specs.LineWritingLaws.{laid-on}
 use Rattle.visit.specs.declared.Visit.{Visit}
 use Rattle.visit.specs.Visit.{lost, isOver}
-use Rattle.visit.specs.VisitLaws.{over-is-not-lost}
-use Rattle.reply_lines.specs.declared.ReplyLine.the-variants.{Nothing, NoReply}
+use Rattle.visit.specs.VisitEnds.{heardAll}
+use Rattle.visit.specs.VisitLaws.{over-stays as over-hears-nothing, over-is-not-lost}
+use Rattle.reply_lines.specs.declared.ReplyLine.the-variants.{Nothing, Reply, NoReply}
 use Rattle.reply_lines.specs.ReplyLines.{replyLine}
 use Rattle.gateway.specs.Visiting.{Standing, standing, answered, afterLine, course, followed, packetLines, LineMeets, VisitMeets}
 
@@ -36,6 +37,28 @@ lost-is-over v = by-test (isOver (v .stage)) (λ t. rw t t) (λ t. rw t)
 pub course-is-over : (lines : List (List ℕ)) (s : Standing) → isOver (course lines s .visit .stage) ≡ true
 course-is-over [] s = lost-is-over (s .visit)
 course-is-over (line ∷ lines) s = by-test (isOver (s .visit .stage)) (λ t. rw t t) (λ t. rw t (course-is-over lines (afterLine line s)))
+
+-- ---- lines that are replies
+-- each line is such a reply, in their order
+abbrev pub Replies : List (List ℕ) → List ℕ → Type 0
+Replies [] [] = Unit {0}
+Replies [] (word ∷ words) = ⊥
+Replies (line ∷ lines) [] = ⊥
+Replies (line ∷ lines) (word ∷ words) = (replyLine line ≡ Reply word) × Replies lines words
+
+over-hears : (v : Visit) (words : List ℕ) → isOver (v .stage) ≡ true → heardAll v words ≡ v
+over-hears v [] t = refl
+over-hears v (word ∷ words) t = rw (over-hears-nothing v word t) (over-hears v words t)
+
+-- .. make of the visit what the words make of it that they carry, and then the input ends
+pub course-hears : (lines : List (List ℕ)) (words : List ℕ) (s : Standing) → Replies lines words
+    → course lines s .visit ≡ lost (heardAll (s .visit) words)
+course-hears [] [] s r = refl
+course-hears [] (word ∷ words) s r = absurd r
+course-hears (line ∷ lines) [] s r = absurd r
+course-hears (line ∷ lines) (word ∷ words) s r =
+    by-test (isOver (s .visit .stage)) (λ t. rw (t, over-hears (s .visit) (word ∷ words) t, over-is-not-lost (s .visit) t))
+    (λ t. rw (t, r .0) (course-hears lines words (answered (Reply word) s) (r .1)))
 
 -- ---- what is held of a line serves as the line
 silent-line : (line : List ℕ) → kindOf line ≡ Silent → replyLine line ≡ Nothing

@@ -20,6 +20,8 @@ use Rattle.common_lines.specs.declared.CommonLine.the-variants.{Other}
 use Rattle.common_lines.specs.CommonLines.{commonLine}
 use Rattle.board_lines.specs.declared.BoardLine.the-variants.{Packet}
 use Rattle.board_lines.specs.BoardLines.{boardOfOne, boardWords, boardLine}
+use Rattle.reply_lines.specs.declared.ReplyLine.the-variants.{Reply}
+use Rattle.reply_lines.specs.ReplyLines.{replyOfOne, replyWords, replyLine}
 use Rattle.memory.specs.declared.Size.the-variants.{Long}
 use Rattle.requests.specs.declared.Request.{Request}
 use Rattle.requests.specs.declared.Request.the-variants.{Rdreg, Read}
@@ -149,3 +151,13 @@ register-typed n fits = request-heard (number-typed (ascii "rdreg") n refl refl 
 pub read-typed : (n : ℕ) → n ≤ 0xFFFFFFFF → talkLine (ascii "read.l " ++ numberText n) ≡ Ask (Read Long n)
 unfolding isGap lower sizeBehind
 read-typed n fits = request-heard (number-typed (ascii "read.l") n refl refl (omega arith) fits) (Read Long n) refl
+
+-- what stand_in answers to a packet is read by gateway as that reply, and so is every line that is `reply` and a number
+pub reply-heard : {line name : List ℕ} {n : ℕ} → OneNumber line name n → same name (ascii "reply") ≡ true → replyLine line ≡ Reply n
+unfolding replyLine replyWords replyOfOne
+reply-heard typed e = rw (typed .kind, typed .apart, typed .number, e)
+
+pub reply-of-five-digits : (n : ℕ) → n < 16 ^ 5 → replyLine (ascii "reply " ++ hexText 5 n) ≡ Reply n
+unfolding isGap lower digitsText
+reply-of-five-digits n fits =
+    reply-heard (one-number (ascii "reply") (hexText 5 n) n refl refl (omega arith) (hex-numeral 5 n (omega arith) fits (omega arith))) refl
