@@ -1,0 +1,3 @@
+pub mod ExportedEvents
+pub mod ExportedEventsLaws
+pub mod ExportedEventsUnique
