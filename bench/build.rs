@@ -1,10 +1,12 @@
-//! Links the proved library, `rt staticlib yarkovesh`, from the folder that YARKOVESH_LIB names.
+//! Links the proved libraries, `rt staticlib yarkovesh` and `rt staticlib yarkovesh_events`, from the folder that YARKOVESH_LIB names.
 
 fn main() {
     println!("cargo:rerun-if-env-changed=YARKOVESH_LIB");
     if let Ok(folder) = std::env::var("YARKOVESH_LIB") {
-        println!("cargo:rerun-if-changed={folder}/libyarkovesh.a");
         println!("cargo:rustc-link-search=native={folder}");
-        println!("cargo:rustc-link-lib=static=yarkovesh");
+        for library in ["yarkovesh", "yarkovesh_events"] {
+            println!("cargo:rerun-if-changed={folder}/lib{library}.a");
+            println!("cargo:rustc-link-lib=static={library}");
+        }
     }
 }

@@ -1,4 +1,4 @@
-//! What is measured: packets and recorded traces, the same in every run. The code was tuned on the first of each kind.
+//! What is measured: packets, recorded traces and events, the same in every run. Of packets and traces the code was tuned on the first.
 
 use second::board::Board;
 use second::command::{Size, CONTROL_REGISTERS};
@@ -6,8 +6,11 @@ use second::pod::Request;
 use second::random::Rng;
 
 pub const MEMORY: usize = 65_536;
-/// Packets or cycles of each.
+/// Packets, cycles or events of each.
 pub const SIZE: usize = 65_536;
+
+/// The numbers of the registers that WDMREG takes.
+pub const DEBUG_REGISTERS: [u32; 10] = [0x00, 0x05, 0x06, 0x07, 0x08, 0x09, 0x0C, 0x0D, 0x0E, 0x0F];
 
 /// A run of packets on a fresh board.
 pub struct Packets {
@@ -38,7 +41,6 @@ pub fn table() -> Packets {
 
 /// Registers alone, with a longer wait.
 pub fn registers() -> Packets {
-    const DEBUG_REGISTERS: [u32; 10] = [0x00, 0x05, 0x06, 0x07, 0x08, 0x09, 0x0C, 0x0D, 0x0E, 0x0F];
     requests(3, 3, |rng| {
         let value = rng.word();
         let rc = u32::from(rng.pick(&CONTROL_REGISTERS));
@@ -149,4 +151,103 @@ fn trace(seed: u64, add: fn(&mut Rng, &mut Vec<u8>)) -> Vec<u8> {
     }
     trace.resize(SIZE, 0x00);
     trace
+}
+
+/// Events on a board as set up.
+pub struct Events {
+    /// In the order of `DEBUG_REGISTERS`.
+    pub registers: [u32; DEBUG_REGISTERS.len()],
+    /// Four words an event: PC, attribute, address, data.
+    pub words: Vec<u32>,
+}
+
+/// The attribute word of an event without an access.
+const NO_ACCESS: u32 = 0x100;
+/// The attributes of a supervisor's data: longword, byte, word.
+const DATA: [u32; 3] = [0x05, 0x25, 0x45];
+
+/// All seven comparators on a range of addresses, in which most accesses fall. No byte of the data is one of DBR's until the last event, which
+/// fires.
+pub fn data() -> Events {
+    const DBR: u32 = 0xA5C3_9687;
+    // AATR leaves the size out. Level 1: EBL, the seven comparators and EAR; the response is display.
+    let registers = [0, 0x05, 0x6005, 0x0000_3FC8, 0, 0, 0x0000_EFFF, 0x0000_2000, DBR, 0];
+    let event = |rng: &mut Rng, _| {
+        let attribute = if rng.once_in(16) { 0x01 } else { rng.pick(&DATA) };
+        let address = if rng.once_in(8) { rng.below(0x2000) } else { rng.between(0x2000, 0xEFFF) };
+        [instruction(rng), attribute, address, rng.word() & 0x7F7F_7F7F]
+    };
+    events(7, registers, event, [INSTRUCTIONS, 0x05, 0x3000, DBR])
+}
+
+/// A breakpoint by PC, sixteen bytes wide, which the last event meets. One event in eight has an access.
+pub fn pc() -> Events {
+    // Level 1: EBL and EPC; the response is to halt.
+    let registers = [0, 0x05, 0x0005, 0x4000_2002, 0x0002_0000, 0x0000_000F, 0, 0, 0, 0];
+    let event = |rng: &mut Rng, _| match rng.once_in(8) {
+        true => [instruction(rng), rng.pick(&DATA), rng.below(0x1_0000), rng.word()],
+        false => [instruction(rng), NO_ACCESS, 0, 0],
+    };
+    events(8, registers, event, [0x0002_000C, NO_ACCESS, 0, 0])
+}
+
+/// Level 1 fires early, by PC. Level 2 waits for that PC again, or for another value in the low half of a longword to which half of the events
+/// are accesses. The last event brings one.
+pub fn two_levels() -> Events {
+    const PBR: u32 = 0x0000_8000;
+    const DBR: u32 = 0x0000_1234;
+    // Level 1: EBL and EPC. Level 2: T, EBL, EDWL, EDLL, DI, EAR and EPC; the response is to halt.
+    let registers = [0, 0x05, 0x0005, 0x6A2A_A002, PBR, 0, 0x0000_4003, 0x0000_4000, DBR, 0];
+    let event = |rng: &mut Rng, place| {
+        let pc = if place == 100 { PBR } else { instruction(rng) };
+        match rng.below(4) {
+            0 => [pc, NO_ACCESS, 0, 0],
+            1 | 2 => [pc, 0x05, 0x4000, rng.word() & 0xFFFF_0000 | DBR],
+            _ => [pc, rng.pick(&DATA), rng.between(0x5000, 0xFFFF), rng.word()],
+        }
+    };
+    events(9, registers, event, [INSTRUCTIONS, 0x05, 0x4000, 0])
+}
+
+/// Events of no plan, on registers that fire often: for what the others do not reach, as refusals, SSM, interrupts and halts early on.
+pub fn any_events(seed: u64) -> Events {
+    let mut rng = Rng::new(seed);
+    let csr = if rng.once_in(8) { 0x10 } else { 0 };
+    // Both levels have EBL, and now and then any other bit.
+    let tdr = 0x2000_2000 | rng.pick(&[0x0002, 0x0004, 0x0008, 0x0002_0002, 0x0010_0008]) | mostly_zero(&mut rng);
+    let [aatr, pbmr, dbmr] = [0; 3].map(|_| !mostly_zero(&mut rng));
+    let [pbr, abhr, ablr] = [0; 3].map(|_| rng.below(0x1000));
+    let registers = [csr, 0x05, aatr, tdr, pbr, pbmr, abhr, ablr, rng.word(), dbmr];
+    let words = (0..64).flat_map(|_| {
+        let pc = if rng.once_in(8) { rng.word() } else { 2 * rng.below(0x800) };
+        let attribute = if rng.once_in(4) { NO_ACCESS + rng.below(2) } else { rng.below(0x100) };
+        [pc, attribute, if rng.once_in(4) { ablr } else { rng.below(0x1000) }, rng.word()]
+    });
+    Events { registers, words: words.collect() }
+}
+
+/// One bit in eight is set.
+fn mostly_zero(rng: &mut Rng) -> u32 {
+    rng.word() & rng.word() & rng.word()
+}
+
+/// Where the instructions begin.
+const INSTRUCTIONS: u32 = 0x0001_0000;
+
+/// The PC of one of them.
+fn instruction(rng: &mut Rng) -> u32 {
+    INSTRUCTIONS + 2 * rng.below(0x4000)
+}
+
+/// So many events, each made for its place; the last is given.
+fn events(
+    seed: u64,
+    registers: [u32; DEBUG_REGISTERS.len()],
+    event: fn(&mut Rng, usize) -> [u32; 4],
+    last: [u32; 4],
+) -> Events {
+    let mut rng = Rng::new(seed);
+    let mut words: Vec<u32> = (1..SIZE).flat_map(|place| event(&mut rng, place)).collect();
+    words.extend(last);
+    Events { registers, words }
 }

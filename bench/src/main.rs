@@ -1,6 +1,6 @@
-//! `bench`: the proved run of packets, listing and page against the second program's, interleaved, in rounds, and the proved page against
-//! the proved listing. `bench agree` only shows that the two agree, and `bench names` what there is to measure. `bench count WHAT WHOSE TIMES` does one of them so many times and nothing else, so
-//! that its instructions can be counted.
+//! `bench`: the proved run of packets, listing, page and events against the second program's, interleaved, in rounds, and the proved page
+//! against the proved listing. `bench agree` only shows that the two agree, on more events than are timed, and `bench names` what there is
+//! to measure. `bench count WHAT WHOSE TIMES` does one of them so many times and nothing else, so that its instructions can be counted.
 
 mod inputs;
 mod ours;
@@ -13,7 +13,7 @@ use work::Work;
 
 const USAGE: &str = "usage: bench | bench agree | bench names | bench count WHAT ours|second TIMES";
 
-fn contests() -> [Contest; 12] {
+fn contests() -> [Contest; 15] {
     [
         packets("packets, slot table", || Work::on_packets(inputs::table())),
         packets("packets, registers", || Work::on_packets(inputs::registers())),
@@ -27,6 +27,9 @@ fn contests() -> [Contest; 12] {
         by_listing("page by listing, transfers", || Work::on_trace(inputs::transfers())),
         by_listing("page by listing, stops", || Work::on_trace(inputs::stops())),
         by_listing("page by listing, jumble", || Work::on_trace(inputs::jumble())),
+        events("events, data", || Work::on_events(inputs::data())),
+        events("events, PC", || Work::on_events(inputs::pc())),
+        events("events, two levels", || Work::on_events(inputs::two_levels())),
     ]
 }
 
@@ -47,12 +50,25 @@ fn by_listing(what: &'static str, input: fn() -> Work) -> Contest {
     Contest { what, input, ours: Work::page_ours, second: Work::list_ours, other: "listing" }
 }
 
+fn events(what: &'static str, input: fn() -> Work) -> Contest {
+    Contest { what, input, ours: Work::events_ours, second: Work::events_second, other: "second" }
+}
+
+/// The events that are timed are all accepted; these are not.
+fn agree_on_any_events() -> Result<(), String> {
+    let work = |seed| Work::on_events(inputs::any_events(seed));
+    match (0..4_096).find(|&seed| !Work::agrees(work(seed), work(seed), Work::events_ours, Work::events_second)) {
+        None => Ok(()),
+        Some(seed) => Err(format!("events of seed {seed}: the two do not agree")),
+    }
+}
+
 fn main() -> ExitCode {
     let arguments: Vec<String> = std::env::args().skip(1).collect();
     let arguments: Vec<&str> = arguments.iter().map(String::as_str).collect();
     let done = match arguments[..] {
-        [] => contests().iter().try_for_each(Contest::hold),
-        ["agree"] => contests().iter().try_for_each(Contest::agree),
+        [] => agree_on_any_events().and_then(|()| contests().iter().try_for_each(Contest::hold)),
+        ["agree"] => agree_on_any_events().and_then(|()| contests().iter().try_for_each(Contest::agree)),
         ["names"] => {
             contests().iter().for_each(|contest| println!("{}", contest.what));
             Ok(())

@@ -1,4 +1,4 @@
-//! The proved library's three functions. A slice crosses as its address and its length.
+//! The proved libraries' four functions. A slice crosses as its address and its length.
 
 mod linked {
     extern "C" {
@@ -23,6 +23,13 @@ mod linked {
             index: *mut u32,
             index_length: usize,
         ) -> u64;
+        pub fn yarkovesh_events(
+            registers: *const [u32; 10],
+            events: *const u32,
+            events_length: usize,
+            answers: *mut u32,
+            answers_length: usize,
+        ) -> u32;
     }
 }
 
@@ -75,4 +82,10 @@ pub fn page(trace: &[u8], numbers: &mut Numbers, index: &mut [u32]) -> u64 {
             index.len(),
         )
     }
+}
+
+/// Events on a board as set up: 0, or the number of the refusal.
+pub fn events(registers: &[u32; 10], events: &[u32], answers: &mut [u32]) -> u32 {
+    // SAFETY: as above.
+    unsafe { linked::yarkovesh_events(registers, events.as_ptr(), events.len(), answers.as_mut_ptr(), answers.len()) }
 }

@@ -21,13 +21,13 @@ pub struct Contest {
 
 impl Contest {
     pub fn agree(&self) -> Result<(), String> {
-        if self.other == "listing" || Work::agrees(self.input, self.ours, self.second) {
+        if self.other == "listing" || Work::agrees((self.input)(), (self.input)(), self.ours, self.second) {
             return Ok(());
         }
         Err(format!("{}: the two do not agree, so there is nothing to measure", self.what))
     }
 
-    /// Prints packets or cycles a second for each side, and the ratio with its spread.
+    /// Prints packets, cycles or events a second for each side, and the ratio with its spread.
     pub fn hold(&self) -> Result<(), String> {
         self.agree()?;
         let mut work = (self.input)();
@@ -58,7 +58,7 @@ impl Contest {
         Ok(())
     }
 
-    /// Packets or cycles a second.
+    /// Packets, cycles or events a second.
     fn rate(&self, side: fn(&mut Work) -> u64, goes: u32, work: &mut Work) -> f64 {
         (f64::from(goes) * inputs::SIZE as f64) / timed(side, goes, work).as_secs_f64()
     }

@@ -1,10 +1,12 @@
 //! The things that are timed, each over a whole input once.
 
-use crate::inputs::{self, Packets};
+use crate::inputs::{self, Events, Packets, DEBUG_REGISTERS};
 use crate::ours::{self, Numbers};
 use second::board::Board;
+use second::events::{Access, Event, EventAnswer};
 use second::page::{index_length, make_page, Entry, Rate};
-use second::refusal::Refusal;
+use second::pod::Request;
+use second::refusal::{Ground, Refusal};
 use second::trace::list_trace;
 
 /// An input, and the buffers that a run of it writes.
@@ -19,6 +21,9 @@ pub struct Work {
     numbers: Numbers,
     index: Vec<u32>,
     entries: Vec<Entry>,
+    registers: [u32; DEBUG_REGISTERS.len()],
+    events: Vec<u32>,
+    answers: Vec<u32>,
 }
 
 impl Work {
@@ -32,6 +37,11 @@ impl Work {
         let index = vec![0; index_length(&trace)];
         let entries = vec![Entry::default(); index.len()];
         Work { trace, words, index, entries, ..Work::default() }
+    }
+
+    pub fn on_events(input: Events) -> Work {
+        let answers = vec![0; input.words.len() / 4];
+        Work { registers: input.registers, events: input.words, answers, ..Work::default() }
     }
 
     /// 0, or the number of the refusal.
@@ -77,6 +87,23 @@ impl Work {
         }
     }
 
+    /// 0, or the number of the refusal.
+    pub fn events_ours(&mut self) -> u64 {
+        u64::from(ours::events(&self.registers, &self.events, &mut self.answers))
+    }
+
+    pub fn events_second(&mut self) -> u64 {
+        let events = self.events.chunks_exact(4);
+        if self.answers.len() < events.len() {
+            return u64::from(Refusal::from(Ground::BufferTooShort).number());
+        }
+        let mut board = set_up(&self.registers);
+        for (words, answer) in events.zip(&mut self.answers) {
+            *answer = board.event(event_of(words)).map_or_else(|refusal| 256 * u32::from(refusal.number()), word_of);
+        }
+        0
+    }
+
     /// The index of either side: items before the cycle, marker and nibbles due, run.
     fn told(index: &[u32]) -> Vec<[u32; 4]> {
         let told = |word: &u32| {
@@ -95,17 +122,40 @@ impl Work {
     }
 
     /// Both give the same answer, and leave the same in every buffer. What is said of a work that is not the same is not worth timing.
-    pub fn agrees(input: fn() -> Work, ours: fn(&mut Work) -> u64, second: fn(&mut Work) -> u64) -> bool {
-        let (mut left, mut right) = (input(), input());
+    pub fn agrees(mut left: Work, mut right: Work, ours: fn(&mut Work) -> u64, second: fn(&mut Work) -> u64) -> bool {
         ours(&mut left) == second(&mut right)
             && left.memory == right.memory
             && left.replies == right.replies
             && left.words == right.words
             && left.numbers == right.numbers
+            && left.answers == right.answers
             && Work::told(&left.index) == Work::told_second(&right.entries)
     }
 }
 
 fn numbered(refusal: Refusal) -> u64 {
     u64::from(refusal.number()) << 32 | u64::from(refusal.cycle)
+}
+
+/// A fresh board of W = 0 whose debug registers a pod has written, and GO.
+fn set_up(registers: &[u32; DEBUG_REGISTERS.len()]) -> Board {
+    let mut board = Board::make(0).expect("the setting is in range");
+    let writes = DEBUG_REGISTERS.into_iter().zip(*registers).map(|(n, value)| Request::WriteDebug { n, value });
+    for request in writes.chain([Request::Go]) {
+        let words = request.build().expect("the fields are in range");
+        board.run(&mut [], &words, &mut [0; 3]).expect("the packets are within their limits");
+    }
+    board
+}
+
+fn event_of(words: &[u32]) -> Event {
+    let access = |attribute| Access { address: words[2], attribute, data: words[3] };
+    Event { pc: words[0], access: u8::try_from(words[1]).ok().map(access) }
+}
+
+fn word_of(answer: EventAnswer) -> u32 {
+    u32::from(answer.level)
+        + 4 * u32::from(answer.halted)
+        + 8 * u32::from(answer.interrupt)
+        + 16 * u32::from(answer.pc.is_some())
 }

@@ -1,7 +1,8 @@
 //! The second program: a stand-in for the Revision B debug port of the MCF5307, the pod's half that talks to it, and the
 //! lister of its recorded trace. Written from the requirements alone, it is what the proved programs are compared with.
 //!
-//! A benchmark uses [`board::Board::run`], [`trace::list_trace`], [`page::make_page`] and [`page::list_from`].
+//! A benchmark uses [`board::Board::run`], [`board::Board::event`], [`trace::list_trace`], [`page::make_page`] and
+//! [`page::list_from`].
 
 pub mod board;
 pub mod bridge;
