@@ -1,4 +1,4 @@
-//! What is measured: packets, recorded traces and events, the same in every run. Of packets and traces the code was tuned on the first.
+//! What is measured: packets, recorded traces and events, the same in every run. Packets and traces: the code was tuned on the first of each.
 
 use second::board::Board;
 use second::command::{Size, CONTROL_REGISTERS};
