@@ -1,10 +1,11 @@
--- Laws of the masked comparison: two numbers agree under a mask exactly where their bits that the mask leaves are the same.
+-- Laws of the masked comparison: two numbers agree under a mask exactly where their bits that the mask leaves are the same; and so lane by lane.
 use Prim.Native.Nat.{ℕ, zero, suc, _/_, _%_, _^_, _<_, max}
 use mathlib.Core.Path.{_≡_, sym, ap, _∙_}
-use mathlib.Core.Bool.{true, false}
+use mathlib.Core.Bool.{true, false, _&&_}
 use lib.Dec.{eqb}
-use lib.Bits.{bitOr, or-step, or-shr}
-use borrow.Author.Tests.{eqb-true, eqb-false, eq-eqb}
+use lib.Bits.{bitOr, or-step, or-shr, or-mod, or-add-and, and-mask}
+use lib.Pow.{shr-shr}
+use borrow.Author.Tests.{eqb-true, eqb-false, eq-eqb, ne-eqb}
 use native.Mathlib.Nat.{max-zero, max-le, max-eq-right, div-div-eq-div-mul, pow-succ'}
 use native.Mathlib.Omega.{arith}
 use Rattle.laws.specs.TestLaws.{by-test}
@@ -59,3 +60,35 @@ same-or (suc n) m a b hm ha hb same =
 pub bits-then-agree : (n m a b : ℕ) → m < 2 ^ n → a < 2 ^ n → b < 2 ^ n → ((k : ℕ) → k < n → bit k m ≡ false → bit k a ≡ bit k b) → agree m a b ≡ true
 unfolding agree
 bits-then-agree n m a b hm ha hb same = eq-eqb _ _ (same-or n m a b hm ha hb same)
+
+-- two numbers are the same exactly where their lowest lane is, and what stands above it
+lane-joins : (a b : ℕ) → (eqb (a / 2 ^ 8) (b / 2 ^ 8) && eqb (a % 2 ^ 8) (b % 2 ^ 8)) ≡ eqb a b
+lane-joins a b =
+    by-test (eqb (a / 2 ^ 8) (b / 2 ^ 8))
+    (λ p.
+    by-test (eqb (a % 2 ^ 8) (b % 2 ^ 8))
+    (λ q. rw (p, q) (sym (eq-eqb a b (omega (arith, eqb-true (a / 2 ^ 8) (b / 2 ^ 8) p, eqb-true (a % 2 ^ 8) (b % 2 ^ 8) q)))))
+    (λ q. rw (p, q) (sym (ne-eqb a b (λ e. eqb-false _ _ q (ap (λ (n : ℕ). n % 2 ^ 8) e))))))
+    (λ p. rw (p) (sym (ne-eqb a b (λ e. eqb-false _ _ p (ap (λ (n : ℕ). n / 2 ^ 8) e)))))
+
+-- two longwords are the same exactly where all four lanes are: D[31:24], D[23:16], D[15:8] and D[7:0]
+pub same-by-lanes : (a b : ℕ)
+    → (((eqb (a / 2 ^ 24) (b / 2 ^ 24) && eqb (a / 2 ^ 16 % 2 ^ 8) (b / 2 ^ 16 % 2 ^ 8)) && eqb (a / 2 ^ 8 % 2 ^ 8) (b / 2 ^ 8 % 2 ^ 8))
+    && eqb (a % 2 ^ 8) (b % 2 ^ 8)) ≡ eqb a b
+same-by-lanes a b =
+    rw (← shr-shr a 16 8, ← shr-shr b 16 8, lane-joins (a / 2 ^ 16) (b / 2 ^ 16), ← shr-shr a 8 8, ← shr-shr b 8 8, lane-joins (a / 2 ^ 8) (b / 2 ^ 8))
+    (lane-joins a b)
+
+-- the comparison of one lane is the masked comparison again, of its bytes
+pub lane-is-masked : (k m a b : ℕ)
+    → eqb (bitOr a m / 2 ^ k % 2 ^ 8) (bitOr b m / 2 ^ k % 2 ^ 8) ≡ agree (m / 2 ^ k % 2 ^ 8) (a / 2 ^ k % 2 ^ 8) (b / 2 ^ k % 2 ^ 8)
+unfolding agree
+lane-is-masked k m a b = rw (or-shr a m k, or-shr b m k, or-mod (a / 2 ^ k) (m / 2 ^ k) 8, or-mod (b / 2 ^ k) (m / 2 ^ k) 8)
+
+-- a lane that is masked whole agrees, whatever stands on it
+pub masked-lane-agrees : (k m a b : ℕ) → m / 2 ^ k % 2 ^ 8 ≡ 0xFF → eqb (bitOr a m / 2 ^ k % 2 ^ 8) (bitOr b m / 2 ^ k % 2 ^ 8) ≡ true
+unfolding agree
+masked-lane-agrees k m a b masked = lane-is-masked k m a b ∙ rw (masked, ones (a / 2 ^ k % 2 ^ 8) (omega arith), ones (b / 2 ^ k % 2 ^ 8) (omega arith))
+  where
+    ones : (n : ℕ) → n < 2 ^ 8 → bitOr n 0xFF ≡ 0xFF
+    ones n small = omega (arith, or-add-and n 0xFF, and-mask n 8)
