@@ -90,7 +90,7 @@ events-counted (pc ∷ attribute ∷ address ∷ lanes ∷ words) = omega (arith
 pub answers-counted : (events : List Event) (b : Board) (p : Place) → length (answersTo events b p) ≡ length events
 unfolding answersTo
 answers-counted [] b p = refl
-answers-counted (event ∷ events) b p = ap suc (answers-counted events (boardAfterEvent b p event) p)
+answers-counted (event ∷ events) b p = ap suc (answers-counted events _ p)
 
 -- where four words are left: the event that they make, and those after it
 pub events-on : (words : List ℕ) (at : ℕ) → at + 3 < length words → eventsOf (drop at words) ≡ eventAt words at ∷ eventsOf (drop (at + 4) words)

@@ -1,3 +1,6 @@
+use mathlib.Core.Path.{ap}
+use lib.ListN.{getD}
+use Rattle.groups.specs.declared.Bus.{Bus}
 use borrow.Author.Needs.{needs}
 use Rattle.yarkovesh_events.proofs.read_event.Statement.{statement}
 use Rattle.yarkovesh_events.proofs.read_event.Tie as tie
@@ -39,7 +42,9 @@ bus-of-requires : tie.Need-bus-of-requires
 bus-of-requires c κs = search needs
 
 returns : tie.Need-returns
-returns c = rw (← c .bus-of .ensures)
+returns c =
+    let at = c .before .before .before .before .before .before .args in
+    ap (λ (bus : Bus). record { pc = getD (at .words .now) (at .at) 0; bus = bus }) (c .bus-of .ensures)
 
 pub read-event-spec : {M : Type 1} → statement M
 read-event-spec =
