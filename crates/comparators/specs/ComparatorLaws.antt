@@ -1,18 +1,16 @@
--- Laws of the ED comparators: one agrees exactly where the data and DBR have the same bits, on its lanes, where DBMR is 0.
+-- Laws of what a comparator that counts compares: it agrees exactly where the data and DBR have the same bits, on its lanes, where DBMR is 0.
 use Prim.Native.Nat.{ℕ, zero, suc, _-_, _/_, _%_, _^_, _<_, _≤_, max}
 use mathlib.Core.Path.{_≡_, sym, ap, _∙_}
 use mathlib.Core.Bool.{true, false, not}
 use lib.Dec.{eqb}
-use lib.Bits.{bitOr, or-lt, and-le-l}
+use lib.Bits.{bitOr, or-lt}
 use native.Mathlib.Nat.{max-eq-left, max-eq-right}
 use borrow.Author.Tests.{eqb-true, eqb-false, eq-eqb, ne-eqb, not-false}
 use native.Mathlib.Omega.{arith}
 use Rattle.laws.specs.TestLaws.{by-test}
 use Rattle.board.specs.declared.Debug.{Debug}
-use Rattle.comparators.specs.declared.BusAccess.{BusAccess}
 use Rattle.board.specs.RegisterBits.{bit}
 use Rattle.comparators.specs.MaskLaws.{no-one, or-digit, left-alone, bit-of-half, agree-then-bits, bits-then-agree}
-use Rattle.comparators.specs.Lanes.{carriedLanes, lanesRead}
 use Rattle.comparators.specs.Comparators.{dataAgrees}
 
 -- a lane is among the others exactly where it is not among these, at any width n
@@ -29,10 +27,10 @@ others-bit (suc n) (suc k) lanes small below =
     half : (2 ^ suc n - 1 - lanes) / 2 ≡ 2 ^ n - 1 - lanes / 2
     half = omega arith
 
-pub comparator-then-bits : (lanes : ℕ) (d : Debug) (access : BusAccess) → lanes < 2 ^ 32 → dataAgrees lanes d access ≡ true
-    → (k : ℕ) → k < 32 → bit k lanes ≡ true → bit k (d .dbmr) ≡ false → bit k (lanesRead access) ≡ bit k (d .dbr)
-comparator-then-bits lanes d access small agrees k below on free =
-    agree-then-bits (bitOr (d .dbmr) (0xFFFFFFFF - lanes)) (lanesRead access) (d .dbr) agrees k
+pub comparator-then-bits : (lanes : ℕ) (d : Debug) (word : ℕ) → lanes < 2 ^ 32 → dataAgrees lanes d word ≡ true
+    → (k : ℕ) → k < 32 → bit k lanes ≡ true → bit k (d .dbmr) ≡ false → bit k word ≡ bit k (d .dbr)
+comparator-then-bits lanes d word small agrees k below on free =
+    agree-then-bits (bitOr (d .dbmr) (0xFFFFFFFF - lanes)) word (d .dbr) agrees k
     (ap (λ (x : ℕ). eqb x 1) (left-alone k (0xFFFFFFFF - lanes) (d .dbmr) (others-bit 32 k lanes small below ∙ ap not on)) ∙ free)
 
 -- a bit that neither of two masks sets
@@ -45,15 +43,11 @@ neither k a m off = (
     digit : (n : ℕ) → n % 2 ≤ 1
     digit n = omega arith
 
-read-is-small : (access : BusAccess) → access .lanes < 2 ^ 32 → lanesRead access < 2 ^ 32
-unfolding lanesRead
-read-is-small access given = omega (arith, and-le-l (access .lanes) (carriedLanes access))
-
-pub bits-then-comparator : (lanes : ℕ) (d : Debug) (access : BusAccess) → lanes < 2 ^ 32 → d .dbmr < 2 ^ 32 → d .dbr < 2 ^ 32 → access .lanes < 2 ^ 32
-    → ((k : ℕ) → k < 32 → bit k lanes ≡ true → bit k (d .dbmr) ≡ false → bit k (lanesRead access) ≡ bit k (d .dbr)) → dataAgrees lanes d access ≡ true
-bits-then-comparator lanes d access small mask pattern given same =
+pub bits-then-comparator : (lanes : ℕ) (d : Debug) (word : ℕ) → lanes < 2 ^ 32 → d .dbmr < 2 ^ 32 → d .dbr < 2 ^ 32 → word < 2 ^ 32
+    → ((k : ℕ) → k < 32 → bit k lanes ≡ true → bit k (d .dbmr) ≡ false → bit k word ≡ bit k (d .dbr)) → dataAgrees lanes d word ≡ true
+bits-then-comparator lanes d word small mask pattern given same =
     let others = 0xFFFFFFFF - lanes in
-    bits-then-agree 32 (bitOr (d .dbmr) others) (lanesRead access) (d .dbr) (or-lt 32 (d .dbmr) others mask (omega arith)) (read-is-small access given) pattern
+    bits-then-agree 32 (bitOr (d .dbmr) others) word (d .dbr) (or-lt 32 (d .dbmr) others mask (omega arith)) given pattern
     (λ k below free.
     let off = neither k (d .dbmr) (0xFFFFFFFF - lanes) free in
     same k below (not-false (bit k lanes) (sym (others-bit 32 k lanes small below) ∙ off .1)) (off .0))

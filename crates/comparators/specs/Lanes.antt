@@ -1,6 +1,6 @@
--- Events and firing (01): the size field of an access, and the lanes that it carries.
+-- Events and firing (01, amended by [1] of 02): the size field of an access, and the lanes that it carries.
 use Prim.Native.Nat.{ℕ, _/_, _%_, _^_}
-use mathlib.Core.Bool.{cond}
+use mathlib.Core.Bool.{Bool, cond}
 use lib.Dec.{eqb}
 use lib.Bits.{bitAnd}
 use Rattle.comparators.specs.declared.BusAccess.{BusAccess}
@@ -24,6 +24,6 @@ carriedLanes access =
     cond (eqb (sizeField access) 0) 0xFFFFFFFF
     (cond (eqb (sizeField access) 1) (byteLanes (access .address)) (cond (eqb (sizeField access) 2) (wordLanes (access .address)) 0))
 
--- "Lanes that the size and address do not carry read as zero."
-unfoldable pub lanesRead : BusAccess → ℕ
-lanesRead access = bitAnd (access .lanes) (carriedLanes access)
+-- [1] of 02: "only if the access carries all its lanes"
+unfoldable pub carriesAll : ℕ → BusAccess → Bool
+carriesAll lanes access = eqb (bitAnd lanes (carriedLanes access)) lanes

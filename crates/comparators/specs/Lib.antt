@@ -3,4 +3,7 @@ pub mod MaskLaws
 pub mod MaskExamples
 pub mod Lanes
 pub mod Comparators
+pub mod LaneLaws
 pub mod ComparatorLaws
+pub mod DroppedLaws
+pub mod CarriedDataLaws

@@ -1,6 +1,6 @@
-// The size field of an access, and the lanes that it carries (01, "Events and firing").
+// The size field of an access, and the lanes that it carries (01, "Events and firing", amended by [1] of 02).
 ghost use mathlib.Core.Path.{_≡_};
-ghost use Rattle.comparators.specs.Lanes.{sizeField, byteLanes, wordLanes, carriedLanes, lanesRead};
+ghost use Rattle.comparators.specs.Lanes.{sizeField, byteLanes, wordLanes, carriedLanes, carriesAll};
 use crate::BusAccess;
 
 pub fn size_field(access: BusAccess) -> u32
@@ -42,9 +42,9 @@ fn carried_lanes(access: BusAccess) -> u32
     }
 }
 
-pub fn read_lanes(access: BusAccess) -> u32
-    ensures { λ r. ⌜ r ≡ lanesRead access ⌝ }
+pub fn carries_all(lanes: u32, access: BusAccess) -> bool
+    ensures { λ r. ⌜ r ≡ carriesAll lanes access ⌝ }
 {
     let carried = carried_lanes(access);
-    access.lanes & carried
+    lanes & carried == lanes
 }

@@ -1,5 +1,6 @@
-// The data comparators of a level (01, "Events and firing"). They work side by side, so none waits for another.
+// The data comparators of a level (01, "Events and firing", amended by [1] of 02). They work side by side, so none waits for another.
 ghost use mathlib.Core.Path.{_≡_};
+ghost use mathlib.Core.Bool.{_&&_};
 ghost use Rattle.comparators.specs.Comparators.{comparator, someComparator, dataEnabled, dataHolds};
 use board::Debug;
 
@@ -33,12 +34,12 @@ pub struct Level {
 }
 
 fn compares(set: bool, lanes: u32, di: bool, debug: Debug, access: BusAccess) -> bool
-    ensures { λ r. ⌜ r ≡ comparator set lanes di debug access ⌝ }
+    ensures { λ r. ⌜ r ≡ (set && comparator lanes di debug access) ⌝ }
 {
-    let read = lanes::read_lanes(access);
-    let agreed = mask::agrees(debug.dbmr | !lanes, read, debug.dbr);
+    let counts = lanes::carries_all(lanes, access);
+    let agreed = mask::agrees(debug.dbmr | !lanes, access.lanes, debug.dbr);
     let met = mask::turn(di, agreed);
-    set & met
+    set & (counts & met)
 }
 
 fn some_compares(level: Level, di: bool, debug: Debug, access: BusAccess) -> bool

@@ -3,8 +3,8 @@ use borrow.Author.Needs.{needs}
 use Rattle.comparators.proofs.compares.Statement.{statement}
 use Rattle.comparators.proofs.compares.Tie as tie
 
-read-lanes-requires : tie.Need-read-lanes-requires
-read-lanes-requires c κs = search needs
+carries-all-requires : tie.Need-carries-all-requires
+carries-all-requires c κs = search needs
 
 agrees-requires : tie.Need-agrees-requires
 agrees-requires c κs = search needs
@@ -14,7 +14,7 @@ turn-requires c κs = search needs
 
 returns : tie.Need-returns
 unfolding comparator
-returns c = rw (← c .before .before .before .read-lanes .ensures, ← c .before .agrees .ensures, ← c .turn .ensures)
+returns c = rw (c .turn .ensures, c .before .agrees .ensures, c .before .before .before .carries-all .ensures)
 
 pub compares-spec : {M : Type 1} → statement M
-compares-spec = tie.close (tie.spec read-lanes-requires agrees-requires turn-requires returns)
+compares-spec = tie.close (tie.spec carries-all-requires agrees-requires turn-requires returns)

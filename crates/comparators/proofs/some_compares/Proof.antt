@@ -1,4 +1,4 @@
-use Rattle.comparators.specs.Comparators.{someComparator}
+use Rattle.comparators.specs.Comparators.{someSet}
 use borrow.Author.Needs.{needs}
 use Rattle.comparators.proofs.some_compares.Statement.{statement}
 use Rattle.comparators.proofs.some_compares.Tie as tie
@@ -25,7 +25,7 @@ compares-requires-7 : tie.Need-compares-requires-7
 compares-requires-7 c κs = search needs
 
 returns : tie.Need-returns
-unfolding someComparator
+unfolding someSet
 returns c =
     rw (
       ← c .before .before .before .before .before .before .compares .ensures,
