@@ -9,7 +9,7 @@ pub struct Access {
     pub address: u32,
     /// Laid out as AATR's low byte: R, SZ, TT, TM.
     pub attribute: u8,
-    /// D[31:0], the operand already on its lanes.
+    /// D[31:0], the operand already on its lanes; the other lanes are not looked at.
     pub data: u32,
 }
 
@@ -55,8 +55,9 @@ impl Access {
         }
     }
 
-    fn carried(&self) -> u32 {
-        self.data & self.lanes()
+    /// Whether all of these lanes are on the bus.
+    fn carries(&self, lanes: u32) -> bool {
+        lanes & !self.lanes() == 0
     }
 }
 
@@ -70,6 +71,8 @@ mod tdr {
     pub const EPC: u32 = 1 << 1;
     pub const PCI: u32 = 1 << 0;
 
+    /// The seven comparators' bits.
+    pub const ED: u32 = 0x7F << 6;
     /// EDLW, EDWL, EDWU, EDLL, EDLM, EDUM, EDUU, each with its lanes.
     pub const COMPARATORS: [(u32, u32); 7] = [
         (1 << 12, 0xFFFF_FFFF),
@@ -193,19 +196,17 @@ impl Board {
     }
 
     fn data_holds(&self, level: Level, access: &Access) -> bool {
-        let differing = (access.carried() ^ self.dbr) & !self.dbmr;
-        let inverted = level.has(tdr::DI);
-        let mut left_out = true;
-        for (enable, lanes) in tdr::COMPARATORS {
-            if level.has(enable) {
-                left_out = false;
-                let agrees = differing & lanes == 0;
-                if agrees != inverted {
-                    return true;
-                }
-            }
+        // "With no ED set, data is left out."
+        if !level.has(tdr::ED) {
+            return true;
         }
-        left_out
+        let differing = (access.data ^ self.dbr) & !self.dbmr;
+        // 02, [1]: "a comparator counts only if the access carries all its lanes", whatever DBMR masks.
+        // "If every set comparator drops out, the data condition fails", with DI too.
+        tdr::COMPARATORS.iter().any(|&(enable, lanes)| {
+            let agrees = differing & lanes == 0;
+            level.has(enable) && access.carries(lanes) && agrees != level.has(tdr::DI)
+        })
     }
 
     /// The breakpoint input is asserted.

@@ -139,28 +139,6 @@ fn each_comparator_has_its_lanes() {
 }
 
 #[test]
-fn lanes_not_carried_read_as_zero() {
-    // Byte 20, word 40, longword 00; placement by the low address bits.
-    for (attribute, offset, lanes) in [
-        (0x25, 0, 0xFF00_0000_u32),
-        (0x25, 1, 0x00FF_0000),
-        (0x25, 2, 0x0000_FF00),
-        (0x25, 3, 0x0000_00FF),
-        (0x45, 0, 0xFFFF_0000),
-        (0x45, 1, 0xFFFF_0000),
-        (0x45, 2, 0x0000_FFFF),
-        (0x45, 3, 0x0000_FFFF),
-        (0x05, 0, 0xFFFF_FFFF),
-        (0x05, 3, 0xFFFF_FFFF),
-    ] {
-        let mut desk = running(EBL | EAR | EDLW);
-        desk.debug(0x06, 0xFF05);
-        desk.debug(0x0E, lanes);
-        assert_eq!(desk.event(&format!("0 {:X} {attribute:X} FFFFFFFF", 0x2000 + offset)), FIRED);
-    }
-}
-
-#[test]
 fn refusals_in_their_order() {
     let mut desk = running(0);
     assert_eq!(desk.event("1001 0 60 0"), "refused 5 at 0");
