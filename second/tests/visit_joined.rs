@@ -245,7 +245,7 @@ fn from_every_place_within_every_command_for_every_w() {
 fn from_states_that_histories_lead_to_for_every_w() {
     let mut seen = BTreeSet::new();
     for w in 0..16u32 {
-        for seed in 0..50 {
+        for seed in 0..80 {
             let rng = &mut Rng::new(u64::from(w) << 32 | seed);
             let mut stand_in = StandIn::new();
             for line in stand_in_script(rng, 250) {

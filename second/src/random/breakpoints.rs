@@ -7,6 +7,11 @@ use crate::board::{bstat, Board};
 /// The registers that WDMREG takes.
 pub const DEBUG_REGISTERS: [u32; 10] = [0x00, 0x05, 0x06, 0x07, 0x08, 0x09, 0x0C, 0x0D, 0x0E, 0x0F];
 
+/// The size field of an attribute byte: longword, byte, word.
+const SIZES: [u8; 3] = [0x00, 0x20, 0x40];
+/// What a byte or a word may stand on.
+const LANES: [u32; 6] = [0xFF, 0xFF00, 0xFF_0000, 0xFF00_0000, 0xFFFF, 0xFFFF_0000];
+
 /// WDMREG with a value that its register may well be given.
 pub fn debug_write(rng: &mut Rng) -> Vec<u32> {
     let n = rng.pick(&DEBUG_REGISTERS);
@@ -57,14 +62,16 @@ pub fn debug_value(rng: &mut Rng, n: u32) -> u32 {
         },
         0x0E => match rng.below(4) {
             0 => rng.word(),
-            1 => rng.pick(&[0xFF, 0xFF00, 0xFF_0000, 0xFF00_0000, 0xFFFF, 0xFFFF_0000]) & rng.word(),
+            1 => rng.pick(&LANES) & rng.word(),
             2 => 0,
             _ => 0x1122_3344,
         },
-        0x0F => match rng.below(5) {
+        0x0F => match rng.below(7) {
             0 => 0xFFFF_FFFF,
-            1 => rng.pick(&[0xFF, 0xFF00, 0xFF_0000, 0xFF00_0000, 0xFFFF, 0xFFFF_0000]),
-            2 => rng.sparse(),
+            1 => rng.pick(&LANES),
+            // All but what an access may carry.
+            2..=3 => !rng.pick(&LANES),
+            4 => rng.sparse(),
             _ => 0,
         },
         _ => rng.word(),
@@ -74,11 +81,11 @@ pub fn debug_value(rng: &mut Rng, n: u32) -> u32 {
 fn attribute_trigger(rng: &mut Rng) -> u32 {
     let mask = match rng.below(5) {
         0 => 0xFF,
-        1 => 0x60,
-        2 => rng.below(0x100),
+        1..=2 => 0x60,
+        3 => rng.below(0x100),
         _ => 0,
     };
-    let size = rng.pick(&[0x00, 0x20, 0x40]);
+    let size = u32::from(rng.pick(&SIZES));
     let rest = rng.pick(&[0x05, 0x85, 0x01, 0x1F, 0x9A]);
     let upper = if rng.once_in(8) { rng.word() << 16 } else { 0 };
     upper | mask << 8 | size | rest
@@ -111,11 +118,23 @@ fn level(rng: &mut Rng, enabled: u32) -> u32 {
     bits
 }
 
+/// One level's bits of TDR by address and data, mostly alone, so that one or two comparators decide; wide ones more often.
+fn data_level(rng: &mut Rng) -> u32 {
+    let first = 1 << rng.pick(&[12, 12, 12, 11, 11, 10, 10, 9, 8, 7, 6]);
+    let second = if rng.percent(40) { 1 << rng.between(6, 12) } else { 0 };
+    let inverted = if rng.percent(40) { 1 << 5 } else { 0 };
+    let pc = if rng.percent(40) { rng.below(4) } else { 0 };
+    1 << 13 | first | second | inverted | rng.between(1, 3) << 2 | pc
+}
+
 fn trigger(rng: &mut Rng) -> u32 {
-    if rng.once_in(20) {
-        return rng.word();
-    }
-    level(rng, 90) | level(rng, 50) << 16 | rng.below(4) << 14 | rng.below(4) << 30
+    let levels = match rng.below(20) {
+        0 => return rng.word(),
+        1..=5 => data_level(rng) | level(rng, 50) << 16,
+        6..=8 => level(rng, 90) | data_level(rng) << 16,
+        _ => level(rng, 90) | level(rng, 50) << 16,
+    };
+    levels | rng.below(4) << 14 | rng.below(4) << 30
 }
 
 /// WDMREG commands that set up the breakpoint registers, TDR last.
@@ -146,6 +165,10 @@ pub fn event(rng: &mut Rng, board: &Board) -> String {
             attribute = near_attribute(rng, board);
             data = near_data(rng, board);
         }
+    }
+    // Any size agrees where both its bits are masked.
+    if board.aatr & 0x6000 == 0x6000 && rng.percent(60) {
+        attribute = attribute & !0x60 | rng.pick(&SIZES);
     }
     if attribute & 0x60 == 0x60 && rng.percent(80) {
         attribute &= rng.pick(&[0x9F, 0xBF, 0xDF]);
@@ -189,7 +212,7 @@ fn near_attribute(rng: &mut Rng, board: &Board) -> u8 {
         0 => wanted ^ (rng.word() as u8 & mask),
         1 => wanted ^ (1 << rng.below(8)),
         2 => rng.word() as u8,
-        _ => wanted & !0x60 | rng.pick(&[0x00, 0x20, 0x40]),
+        _ => wanted & !0x60 | rng.pick(&SIZES),
     }
 }
 

@@ -13,16 +13,16 @@ pub fn all() -> Vec<Stored> {
     ]
 }
 
-const EBL: u32 = 1 << 13;
-const EPC: u32 = 1 << 1;
+pub(super) const EBL: u32 = 1 << 13;
+pub(super) const EPC: u32 = 1 << 1;
 const EAL: u32 = 1 << 2;
-const EAR: u32 = 1 << 3;
-const DI: u32 = 1 << 5;
-const T_1: u32 = 1 << 14;
-const T_2: u32 = 1 << 15;
+pub(super) const EAR: u32 = 1 << 3;
+pub(super) const DI: u32 = 1 << 5;
+pub(super) const T_1: u32 = 1 << 14;
+pub(super) const T_2: u32 = 1 << 15;
 
 /// A running board with PBR 1000, ABLR 2000, ABHR 2010, DBR 11223344, AATR 0005.
-fn running(s: &mut Writer<StandIn>) {
+pub(super) fn running(s: &mut Writer<StandIn>) {
     s.say("make 0");
     for (n, value) in [(0x08, 0x1000), (0x0D, 0x2000), (0x0C, 0x2010), (0x0E, 0x1122_3344), (0x06, 0x0005)] {
         s.packets(&[0x2C80 + n, value >> 16, value & 0xFFFF]);
@@ -31,7 +31,7 @@ fn running(s: &mut Writer<StandIn>) {
 }
 
 /// Arms TDR without waiting for the reply.
-fn arm(s: &mut Writer<StandIn>, tdr: u32) {
+pub(super) fn arm(s: &mut Writer<StandIn>, tdr: u32) {
     s.packets(&[0x2C87, tdr >> 16, tdr & 0xFFFF]);
 }
 

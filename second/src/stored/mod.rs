@@ -9,6 +9,7 @@ mod events;
 mod firing;
 mod gateway;
 mod illegal;
+mod lanes;
 mod marks;
 mod pages;
 mod pod;
@@ -48,6 +49,7 @@ pub fn all() -> Vec<Stored> {
     stored.extend(sequences::all());
     stored.extend(events::all());
     stored.extend(firing::all());
+    stored.extend(lanes::all());
     stored.extend(unclear::all());
     stored.extend(typed::all());
     stored.extend(pod::all());
