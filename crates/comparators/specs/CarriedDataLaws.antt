@@ -5,7 +5,7 @@ use mathlib.Core.Bool.{Bool, true, false, not, _&&_, _||_, and-true, or-true}
 use lib.Bits.{bitAnd, and-mask, and-le-l}
 use borrow.Author.Tests.{eq-eqb}
 use native.Mathlib.Omega.{arith}
-use Rattle.laws.specs.TestLaws.{by-test, both-hold}
+use Rattle.laws.specs.TestLaws.{by-test, both-hold, or-grows, same-truth}
 use Rattle.board.specs.declared.Debug.{Debug}
 use Rattle.board.specs.RegisterBits.{bit}
 use Rattle.comparators.specs.declared.BusAccess.{BusAccess}
@@ -21,18 +21,16 @@ use Rattle.comparators.specs.ComparatorLaws.{comparator-then-bits, bits-
 abbrev pub readBefore : BusAccess → ℕ
 readBefore access = bitAnd (access .lanes) (carriedLanes access)
 
--- and every set comparator counted
+-- and every comparator counted
+abbrev pub comparatorBefore : Ed → Bool → Debug → BusAccess → Bool
+comparatorBefore c di d access = turned di (dataAgrees (lanesOf c) d (readBefore access))
+
 abbrev pub dataHeldBefore : Level → Debug → BusAccess → Bool
-dataHeldBefore level d access =
-    not (dataEnabled level) || someSet level (λ (c : Ed). turned (level .di) (dataAgrees (lanesOf c) d (readBefore access)))
+dataHeldBefore level d access = not (dataEnabled level) || someSet level (λ (c : Ed). comparatorBefore c (level .di) d access)
 
 some-set-same : (level : Level) (f g : Ed → Bool) → ((c : Ed) → f c ≡ g c) → someSet level f ≡ someSet level g
 unfolding someSet
 some-set-same level f g same = rw (same EDLW, same EDWL, same EDWU, same EDLL, same EDLM, same EDUM, same EDUU)
-
-or-grows : (a b x y : Bool) → (a ≡ true → b ≡ true) → (x ≡ true → y ≡ true) → (a || x) ≡ true → (b || y) ≡ true
-or-grows true b x y to from holds = rw (to refl)
-or-grows false b x y to from holds = rw (from holds, or-true b)
 
 some-set-grows : (level : Level) (f g : Ed → Bool) → ((c : Ed) → f c ≡ true → g c ≡ true) → someSet level f ≡ true → someSet level g ≡ true
 unfolding someSet
@@ -66,7 +64,7 @@ pub longword-holds-as-before : (level : Level) (d : Debug) (access : BusAccess) 
 unfolding carriedLanes carriesAll comparator
 longword-holds-as-before level d access given long =
     ap (λ (held : Bool). not (dataEnabled level) || held)
-    (some-set-same level (λ (c : Ed). comparator (lanesOf c) (level .di) d access) before same)
+    (some-set-same level (λ (c : Ed). comparator (lanesOf c) (level .di) d access) (λ (c : Ed). comparatorBefore c (level .di) d access) same)
   where
     all : carriedLanes access ≡ 2 ^ 32 - 1
     all = rw long
@@ -74,16 +72,8 @@ longword-holds-as-before level d access given long =
     whole : (n : ℕ) → n < 2 ^ 32 → bitAnd n (carriedLanes access) ≡ n
     whole n small = ap (bitAnd n) all ∙ and-mask n 32 ∙ (omega arith)
 
-    before : Ed → Bool
-    before c = turned (level .di) (dataAgrees (lanesOf c) d (readBefore access))
-
-    same : (c : Ed) → comparator (lanesOf c) (level .di) d access ≡ before c
+    same : (c : Ed) → comparator (lanesOf c) (level .di) d access ≡ comparatorBefore c (level .di) d access
     same c = rw (whole (access .lanes) given, eq-eqb _ (lanesOf c) (whole (lanesOf c) (below-longword c)))
-
-same-truth : (x y : Bool) → (x ≡ true → y ≡ true) → (y ≡ true → x ≡ true) → x ≡ y
-same-truth true y to from = sym (to refl)
-same-truth false true to from = from refl
-same-truth false false to from = refl
 
 -- a comparator sees its lanes alone
 module _ (c : Ed) (d : Debug) (mask : d .dbmr < 2 ^ 32) (pattern : d .dbr < 2 ^ 32) where
@@ -122,23 +112,24 @@ module _ (level : Level) (d : Debug) (access : BusAccess) (mask : d .dbmr < 2 ^ 
       same : (c : Ed) → comparator (lanesOf c) (level .di) d (withData access word) ≡ comparator (lanesOf c) (level .di) d access
       same c = by-test (carriesAll (lanesOf c) access) (λ p. rw (agreed c p)) (λ p. rw p)
 
+  -- a comparator that counts does what it did before
+  pub counts-as-before : (c : Ed) → carriesAll (lanesOf c) access ≡ true → comparator (lanesOf c) (level .di) d access ≡ comparatorBefore c (level .di) d access
+  unfolding comparator
+  counts-as-before c all =
+      rw (all)
+      (ap (turned (level .di))
+      (agrees-alike c d mask pattern (access .lanes) (readBefore access) given (omega (arith, and-le-l (access .lanes) (carriedLanes access))) read))
+    where
+      read : (k : ℕ) → k < 32 → bit k (lanesOf c) ≡ true → bit k (access .lanes) ≡ bit k (readBefore access)
+      read k below on =
+          sym (and-bit k (access .lanes) (carriedLanes access) ∙ rw (carries-then-bits (lanesOf c) access all k on, and-true (bit k (access .lanes))))
+
   -- data that hold did so before: the request only takes away
   pub holds-then-held : dataHolds level d access ≡ true → dataHeldBefore level d access ≡ true
   unfolding comparator
   holds-then-held =
       or-grows (not (dataEnabled level)) (not (dataEnabled level)) _ _ (λ p. p)
-      (some-set-grows level (λ (c : Ed). comparator (lanesOf c) (level .di) d access) before counted)
+      (some-set-grows level (λ (c : Ed). comparator (lanesOf c) (level .di) d access) (λ (c : Ed). comparatorBefore c (level .di) d access) held)
     where
-      before : Ed → Bool
-      before c = turned (level .di) (dataAgrees (lanesOf c) d (readBefore access))
-
-      read : (c : Ed) → carriesAll (lanesOf c) access ≡ true → dataAgrees (lanesOf c) d (readBefore access) ≡ dataAgrees (lanesOf c) d (access .lanes)
-      read c all =
-          agrees-alike c d mask pattern (readBefore access) (access .lanes) (omega (arith, and-le-l (access .lanes) (carriedLanes access))) given
-          (λ k below on.
-          and-bit k (access .lanes) (carriedLanes access) ∙ rw (carries-then-bits (lanesOf c) access all k on, and-true (bit k (access .lanes))))
-
-      counted : (c : Ed) → comparator (lanesOf c) (level .di) d access ≡ true → before c ≡ true
-      counted c holds =
-          let both = both-hold (carriesAll (lanesOf c) access) (turned (level .di) (dataAgrees (lanesOf c) d (access .lanes))) holds in
-          rw (read c (both .0)) (both .1)
+      held : (c : Ed) → comparator (lanesOf c) (level .di) d access ≡ true → comparatorBefore c (level .di) d access ≡ true
+      held c holds = sym (counts-as-before c (both-hold (carriesAll (lanesOf c) access) _ holds .0)) ∙ holds

@@ -1,6 +1,6 @@
--- Laws of tests: what holds in both cases, and two tests that both hold.
-use mathlib.Core.Path.{_≡_, refl}
-use mathlib.Core.Bool.{Bool, true, false, cond, _&&_}
+-- Laws of tests: what holds in both cases, two tests that both hold, and a test that holds where another does.
+use mathlib.Core.Path.{_≡_, refl, sym}
+use mathlib.Core.Bool.{Bool, true, false, cond, _&&_, _||_, or-true}
 
 -- by cases of a test
 pub by-test : {A : Type 0} (t : Bool) → (t ≡ true → A) → (t ≡ false → A) → A
@@ -15,3 +15,15 @@ either P false x y f g = g refl
 pub both-hold : (x y : Bool) → (x && y) ≡ true → (x ≡ true) × (y ≡ true)
 both-hold true y h = (refl, h)
 both-hold false y h = (h, cc)
+
+pub and-holds : (x y : Bool) → x ≡ true → y ≡ true → (x && y) ≡ true
+and-holds x y p q = rw (p, q)
+
+pub or-grows : (a b x y : Bool) → (a ≡ true → b ≡ true) → (x ≡ true → y ≡ true) → (a || x) ≡ true → (b || y) ≡ true
+or-grows true b x y to from holds = rw (to refl)
+or-grows false b x y to from holds = rw (from holds, or-true b)
+
+pub same-truth : (x y : Bool) → (x ≡ true → y ≡ true) → (y ≡ true → x ≡ true) → x ≡ y
+same-truth true y to from = sym (to refl)
+same-truth false true to from = from refl
+same-truth false false to from = refl

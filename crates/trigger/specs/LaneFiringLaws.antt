@@ -3,7 +3,7 @@ use Prim.Native.Nat.{ℕ, _^_, _<_}
 use mathlib.Core.Path.{_≡_, refl, sym, ap, _∙_}
 use mathlib.Core.Bool.{Bool, true, false, cond, not, _&&_, _||_, or-true, false≢true}
 use lib.Dec.{eqb}
-use Rattle.laws.specs.TestLaws.{both-hold}
+use Rattle.laws.specs.TestLaws.{both-hold, and-holds}
 use Rattle.board.specs.declared.Debug.{Debug}
 use Rattle.comparators.specs.declared.BusAccess.{BusAccess}
 use Rattle.comparators.specs.declared.Level.{Level}
@@ -105,9 +105,6 @@ joined-grows true pc true false true to fires = rw or-true
 joined-grows true pc false false true to fires = fires
 joined-grows false pc true false true to fires = absurd (false≢true (both-hold ((pc .enabled || true) && (not (pc .enabled) || pc .holds)) false fires .1))
 joined-grows false pc false false true to fires = fires
-
-and-holds : (x y : Bool) → x ≡ true → y ≡ true → (x && y) ≡ true
-and-holds x y p q = rw (p, q)
 
 -- a level that an event fires it fired before, whatever the registers
 pub fires-then-fired : (level : Level) (d : Debug) (event : Event) → d .dbmr < 2 ^ 32 → d .dbr < 2 ^ 32
