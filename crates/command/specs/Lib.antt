@@ -1,3 +1,5 @@
 pub mod Command
 pub mod CommandLaws
+pub mod TableMirror
+pub mod TableLaws
 pub mod Reply

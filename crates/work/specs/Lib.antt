@@ -1,2 +1,3 @@
 pub mod Work
 pub mod WorkLaws
+pub mod WorkMirror

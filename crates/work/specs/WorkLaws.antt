@@ -5,6 +5,10 @@ use mathlib.Core.Bool.{Bool, true, false, cond}
 use mathlib.Core.List.{List}
 use Rattle.memory.specs.declared.Size.the-variants.{Byte, Word, Long}
 use Rattle.memory.specs.Memory.{aligned, present, putAt, stored}
+use Rattle.memory.specs.declared.Fetch.{Fetch}
+use Rattle.memory.specs.declared.Fetch.the-variants.{Value, BusError}
+use Rattle.command.specs.declared.Source.{Source}
+use Rattle.command.specs.declared.Source.the-variants as source
 use Rattle.command.specs.declared.Command.{Command}
 use Rattle.command.specs.declared.Command.the-variants.{Unknown, Nop, Load, Store, Show, Change}
 use Rattle.command.specs.Command.{nop}
@@ -14,7 +18,15 @@ use Rattle.access.specs.declared.Access.{Access}
 use Rattle.access.specs.declared.Access.the-variants.{NoAccess, Fetched, Stored, Missing}
 use Rattle.work.specs.declared.Ending.the-variants.{Failed}
 use Rattle.access.specs.Access.{past, startOf, accessOf, memoryAfter, pointerAfter}
-use Rattle.work.specs.Work.{accessEnding, endingOf, chainBy}
+use Rattle.work.specs.WorkMirror.{valueEnding}
+use Rattle.work.specs.Work.{accessEnding, shownEnding, endingOf, chainBy}
+
+-- every register is shown in two words
+pub register-ending : (from : Source) (found : Fetch) → valueEnding (Show from) found ≡ shownEnding found
+register-ending (source.General n) (Value v) = refl
+register-ending source.Control (Value v) = refl
+register-ending source.Csr (Value v) = refl
+register-ending from BusError = refl
 
 -- "A bus error doesn't move it."
 failed-access-leaves-pointer : (x : Access) (pointer : ℕ) → accessEnding x ≡ Failed → pointerAfter x pointer ≡ pointer

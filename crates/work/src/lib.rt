@@ -1,11 +1,13 @@
 // What a command does once its last word is in and its waits are over (01, "Packets").
 ghost use mathlib.Core.Path.{_≡_};
-ghost use Rattle.work.specs.Work.{accessEnding, shownEnding, changeEnding, endingOf, firstReply, phaseAfter, chainBy, chainAfter, placeAfter};
+ghost use Rattle.work.specs.WorkMirror.{valueEnding};
+ghost use Rattle.work.specs.Work.{accessEnding, changeEnding, endingOf, firstReply, phaseAfter, chainBy, chainAfter, placeAfter};
 use access::Access;
 use board::Board;
 use board::Chain;
 use board::Phase;
 use board::Place;
+use command::Base;
 use command::Command;
 use command::Source;
 use command::Target;
@@ -20,27 +22,42 @@ pub enum Ending {
     TwoWords(u32),
 }
 
+// A value goes out in as many words as the command's line of the table says.
+fn end_value(command: Command, found: Fetch) -> Ending
+    ensures { λ r. ⌜ r ≡ valueEnding command found ⌝ }
+{
+    match found {
+        Fetch::Value(value) => {
+            if command::result_count(command) == 1 {
+                return Ending::OneWord(value);
+            }
+            Ending::TwoWords(value)
+        }
+        Fetch::BusError => Ending::Failed,
+    }
+}
+
 fn end_access(access: Access) -> Ending
     ensures { λ r. ⌜ r ≡ accessEnding access ⌝ }
 {
     match access {
         Access::NoAccess => Ending::Complete,
         Access::Fetched(size, value, _) => match size {
-            Size::Byte => Ending::OneWord(value),
-            Size::Word => Ending::OneWord(value),
-            Size::Long => Ending::TwoWords(value),
+            Size::Byte => end_value(
+                Command::Load(Size::Byte, Base::Address),
+                Fetch::Value(value),
+            ),
+            Size::Word => end_value(
+                Command::Load(Size::Word, Base::Address),
+                Fetch::Value(value),
+            ),
+            Size::Long => end_value(
+                Command::Load(Size::Long, Base::Address),
+                Fetch::Value(value),
+            ),
         },
         Access::Stored(_) => Ending::Complete,
         Access::Missing => Ending::Failed,
-    }
-}
-
-fn end_shown(found: Fetch) -> Ending
-    ensures { λ r. ⌜ r ≡ shownEnding found ⌝ }
-{
-    match found {
-        Fetch::Value(value) => Ending::TwoWords(value),
-        Fetch::BusError => Ending::Failed,
     }
 }
 
@@ -62,9 +79,17 @@ pub fn find_ending(command: Command, board: Board, address: u32, access: Access)
         Command::Load(_, _) => end_access(access),
         Command::Store(_, _) => end_access(access),
         Command::Show(source) => match source {
-            Source::General(n) => Ending::TwoWords(control::general_of(board, n as u32)),
-            Source::Control => end_shown(control::fetch_control(board, address)),
-            Source::Csr => Ending::TwoWords(csr::csr_of(board)),
+            Source::General(n) => {
+                let value = control::general_of(board, n as u32);
+                end_value(Command::Show(Source::General(n)), Fetch::Value(value))
+            }
+            Source::Control => {
+                end_value(
+                    Command::Show(Source::Control),
+                    control::fetch_control(board, address),
+                )
+            }
+            Source::Csr => end_value(Command::Show(Source::Csr), Fetch::Value(csr::csr_of(board))),
         },
         Command::Change(target) => match target {
             Target::General(_) => Ending::Complete,

@@ -1,3 +1,6 @@
+use mathlib.Core.Path.{_∙_}
+use Rattle.command.specs.declared.Source.the-variants.{Control}
+use Rattle.work.specs.WorkLaws.{register-ending}
 use borrow.Author.Needs.{needs}
 use Rattle.work.proofs.find_ending.Statement.{statement}
 use Rattle.work.proofs.find_ending.Tie as tie
@@ -32,20 +35,26 @@ cast-general-of c = search needs
 general-of-requires : tie.Need-general-of-requires
 general-of-requires c κs = search needs
 
+end-value-requires : tie.Need-end-value-requires
+end-value-requires c κs = search needs
+
 enum-told-5 : tie.Need-enum-told-5
 enum-told-5 c = search needs
 
 fetch-control-requires : tie.Need-fetch-control-requires
 fetch-control-requires c κs = search needs
 
-end-shown-requires : tie.Need-end-shown-requires
-end-shown-requires c κs = search needs
+end-value-requires-2 : tie.Need-end-value-requires-2
+end-value-requires-2 c κs = search needs
 
 enum-told-6 : tie.Need-enum-told-6
 enum-told-6 c = search needs
 
 csr-of-requires : tie.Need-csr-of-requires
 csr-of-requires c κs = search needs
+
+end-value-requires-3 : tie.Need-end-value-requires-3
+end-value-requires-3 c κs = search needs
 
 enum-known-command-2 : tie.Need-enum-known-command-2
 enum-known-command-2 c = search needs
@@ -84,13 +93,15 @@ returns-4 : tie.Need-returns-4
 returns-4 c = rw (c .before .enum-told4 .given .1, ← c .end-access2 .ensures)
 
 returns-5 : tie.Need-returns-5
-returns-5 c = rw (c .before .before .before .before .before .command .given .1, c .before .before .source .given .1, ← c .general-of .ensures)
+returns-5 c = rw (c .before .before .before .before .before .before .command .given .1, c .before .before .before .source .given .1, ← c .before .general-of .ensures) (c .end-value .ensures)
 
 returns-6 : tie.Need-returns-6
-returns-6 c = rw (c .before .before .before .before .before .command .given .1, c .before .before .enum-told5 .given .1, ← c .before .fetch-control .ensures, ← c .end-shown .ensures)
+returns-6 c =
+    rw (c .before .before .before .before .before .command .given .1, c .before .before .enum-told5 .given .1, ← c .before .fetch-control .ensures)
+    (c .end-value2 .ensures ∙ register-ending Control (c .before .fetch-control .result))
 
 returns-7 : tie.Need-returns-7
-returns-7 c = rw (c .before .before .before .before .command .given .1, c .before .enum-told6 .given .1, ← c .csr-of .ensures)
+returns-7 c = rw (c .before .before .before .before .before .command .given .1, c .before .before .enum-told6 .given .1, ← c .before .csr-of .ensures) (c .end-value3 .ensures)
 
 returns-8 : tie.Need-returns-8
 returns-8 c = rw (c .before .before .before .command2 .given .1, c .enum-told7 .given .1)
@@ -121,11 +132,13 @@ find-ending-spec =
     enum-known-source
     cast-general-of
     general-of-requires
+    end-value-requires
     enum-told-5
     fetch-control-requires
-    end-shown-requires
+    end-value-requires-2
     enum-told-6
     csr-of-requires
+    end-value-requires-3
     enum-known-command-2
     enum-told-7
     enum-told-8

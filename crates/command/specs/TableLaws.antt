@@ -1,0 +1,260 @@
+-- Laws of the code's table of command words: a test of each word, and that the table then gives what the definitions give.
+use mathlib.Core.Path.{_≡_, refl, sym, ap, _∙_}
+use Prim.Native.Nat.{ℕ, zero, suc, _+_, _*_, _-_, _/_, _%_, _<_, _≤_}
+use native.Mathlib.Nat.{not-suc-le-zero}
+use native.Mathlib.Omega.{arith}
+use mathlib.Core.Bool.{Bool, true, false, cond, _&&_, _||_}
+use mathlib.Core.List.{List, [], _∷_}
+use lib.Dec.{eqb, ltb}
+use borrow.Author.Tests.{eq-eqb, ne-eqb, eqb-true, eqb-false, ltb-true, ltb-false}
+use Rattle.memory.specs.declared.Size.{Size}
+use Rattle.memory.specs.declared.Size.the-variants.{Byte, Word, Long}
+use Rattle.command.specs.declared.DebugRegister.the-variants.{Csr, Baar, Aatr, Tdr, Pbr, Pbmr, Abhr, Ablr, Dbr, Dbmr}
+use Rattle.command.specs.declared.Command.{Command}
+use Rattle.command.specs.declared.Command.the-variants.{Unknown, Nop, Load, Store, Show, Change}
+use Rattle.command.specs.declared.Base.the-variants.{Address, Pointer}
+use Rattle.command.specs.declared.Source.the-variants as source
+use Rattle.command.specs.declared.Target.the-variants as target
+use Rattle.command.specs.Command.{Row, table, lookedUp, rdreg, wdreg, debugNumber, decodedWord, decoded, operandWords, resultWords}
+use Rattle.command.specs.TableMirror.{operandDigits, takes, allowed, Allows, sizeIn, wordsFor, countsIn, countsOf}
+use Rattle.laws.specs.TestLaws.{by-test, both-hold}
+
+abbrev sizeBits : Size → ℕ
+sizeBits Byte = 0x00
+sizeBits Word = 0x40
+sizeBits Long = 0x80
+
+-- a command by its word; one that is none by a number that is no word
+abbrev wordOf : Command → ℕ
+wordOf Unknown = 0x10000
+wordOf Nop = 0x0000
+wordOf (Load size Address) = 0x1900 + sizeBits size
+wordOf (Load size Pointer) = 0x1D00 + sizeBits size
+wordOf (Store size Address) = 0x1800 + sizeBits size
+wordOf (Store size Pointer) = 0x1C00 + sizeBits size
+wordOf (Show (source.General n)) = 0x2180 + n
+wordOf (Show source.Control) = 0x2980
+wordOf (Show source.Csr) = 0x2D80
+wordOf (Change (target.General n)) = 0x2080 + n
+wordOf (Change target.Control) = 0x2880
+wordOf (Change (target.Debug r)) = 0x2C80 + debugNumber r
+wordOf (Change target.Run) = 0x0C00
+wordOf (Change target.Sync) = 0x0001
+
+-- it has a word: there are sixteen general registers
+abbrev hasWord : Command → Bool
+hasWord Unknown = true
+hasWord Nop = true
+hasWord (Load size base) = true
+hasWord (Store size base) = true
+hasWord (Show (source.General n)) = ltb n 16
+hasWord (Show source.Control) = true
+hasWord (Show source.Csr) = true
+hasWord (Change (target.General n)) = ltb n 16
+hasWord (Change target.Control) = true
+hasWord (Change (target.Debug r)) = true
+hasWord (Change target.Run) = true
+hasWord (Change target.Sync) = true
+
+word-back : (c : Command) → hasWord c ≡ true → decoded (wordOf c) ≡ c
+unfolding decoded decodedWord
+word-back Unknown h = refl
+word-back Nop h = refl
+word-back (Load Byte Address) h = refl
+word-back (Load Word Address) h = refl
+word-back (Load Long Address) h = refl
+word-back (Load Byte Pointer) h = refl
+word-back (Load Word Pointer) h = refl
+word-back (Load Long Pointer) h = refl
+word-back (Store Byte Address) h = refl
+word-back (Store Word Address) h = refl
+word-back (Store Long Address) h = refl
+word-back (Store Byte Pointer) h = refl
+word-back (Store Word Pointer) h = refl
+word-back (Store Long Pointer) h = refl
+word-back (Show (source.General n)) h =
+    let below = ltb-true n 16 h in
+    rw (eq-eqb ((0x2180 + n) / 16) 0x218 (omega (arith, below))) (ap (λ (k : ℕ). Show (source.General k)) (omega (arith, below)))
+word-back (Show source.Control) h = refl
+word-back (Show source.Csr) h = refl
+word-back (Change (target.General n)) h =
+    let below = ltb-true n 16 h in
+    rw (ne-eqb ((0x2080 + n) / 16) 0x218 (λ e. omega (arith, below, e)), eq-eqb ((0x2080 + n) / 16) 0x208 (omega (arith, below)))
+    (ap (λ (k : ℕ). Change (target.General k)) (omega (arith, below)))
+word-back (Change target.Control) h = refl
+word-back (Change (target.Debug Csr)) h = refl
+word-back (Change (target.Debug Baar)) h = refl
+word-back (Change (target.Debug Aatr)) h = refl
+word-back (Change (target.Debug Tdr)) h = refl
+word-back (Change (target.Debug Pbr)) h = refl
+word-back (Change (target.Debug Pbmr)) h = refl
+word-back (Change (target.Debug Abhr)) h = refl
+word-back (Change (target.Debug Ablr)) h = refl
+word-back (Change (target.Debug Dbr)) h = refl
+word-back (Change (target.Debug Dbmr)) h = refl
+word-back (Change target.Run) h = refl
+word-back (Change target.Sync) h = refl
+
+abbrev same : Command → Command → Bool
+same a b = eqb (wordOf a) (wordOf b) && (hasWord a && hasWord b)
+
+same-is-equal : (a b : Command) → same a b ≡ true → a ≡ b
+same-is-equal a b h =
+    let words = both-hold (eqb (wordOf a) (wordOf b)) (hasWord a && hasWord b) h in
+    let have = both-hold (hasWord a) (hasWord b) (words .1) in
+    sym (word-back a (have .0)) ∙ ap decoded (eqb-true (wordOf a) (wordOf b) (words .0)) ∙ word-back b (have .1)
+
+abbrev keptIf : Bool → Row → List Row → List Row
+keptIf true r rs = r ∷ rs
+keptIf false r rs = rs
+
+-- the rows of an upper byte, so that the test of a word asks few
+unfoldable pub under : ℕ → List Row → List Row
+under upper [] = []
+under upper (r ∷ rs) = keptIf (eqb (r .word / 256) upper) r (under upper rs)
+
+abbrev decodedBy : List Row → ℕ → Command
+decodedBy rows w = cond (eqb (w / 16) 0x218) (rdreg (w % 16)) (cond (eqb (w / 16) 0x208) (wdreg (w % 16)) (lookedUp w rows))
+
+looked-up-under : (w : ℕ) (rows : List Row) → lookedUp w rows ≡ lookedUp w (under (w / 256) rows)
+unfolding under
+looked-up-under w [] = refl
+looked-up-under w (r ∷ rs) =
+    by-test (eqb (r .word / 256) (w / 256))
+    (λ match. rw (match) (ap (cond (eqb w (r .word)) (r .command)) (looked-up-under w rs)))
+    (λ other. rw (other, ne-eqb w (r .word) (λ e. eqb-false (r .word / 256) (w / 256) other (ap (λ (x : ℕ). x / 256) (sym e)))) (looked-up-under w rs))
+
+decoded-under : (w : ℕ) → decodedBy (under (w / 256) table) w ≡ decoded w
+unfolding decoded decodedWord
+decoded-under w =
+    ap (λ (c : Command). cond (eqb (w / 16) 0x218) (rdreg (w % 16)) (cond (eqb (w / 16) 0x208) (wdreg (w % 16)) c)) (sym (looked-up-under w table))
+
+-- a test of every number below n
+abbrev eachBelow : ℕ → (ℕ → Bool) → Bool
+eachBelow zero test = true
+eachBelow (suc n) test = test n && eachBelow n test
+
+each-below : (n : ℕ) (test : ℕ → Bool) → eachBelow n test ≡ true → (k : ℕ) → k < n → test k ≡ true
+each-below zero test h k below = absurd (not-suc-le-zero below)
+each-below (suc n) test h k below =
+    by-test (eqb k n) (λ last. ap test (eqb-true k n last) ∙ both-hold (test n) (eachBelow n test) h .0)
+    (λ other. each-below n test (both-hold (test n) (eachBelow n test) h .1) k (omega (arith, eqb-false k n other, below)))
+
+-- the counts that a line has for a lower byte
+abbrev operandsIn : ℕ → ℕ → ℕ
+operandsIn line lower = cond (takes line lower) (wordsFor (operandDigits line) (sizeIn lower)) 0
+
+abbrev resultsIn : ℕ → ℕ → ℕ
+resultsIn line lower = cond (takes line lower) (wordsFor line (sizeIn lower)) 0
+
+-- an entry is right for a word: it gives the decoder's command, and its line that command's counts
+pub record RightEntry (line : ℕ) (gives : ℕ → Command) (w : ℕ) : Type 0 where
+  pub command : allowed line (w % 256) (gives (w % 256)) ≡ decoded w
+  pub operands : operandsIn line (w % 256) ≡ operandWords (decoded w)
+  pub results : resultsIn line (w % 256) ≡ resultWords (decoded w)
+
+abbrev agrees : ℕ → (ℕ → Command) → ℕ → Command → Bool
+agrees line gives lower c =
+    same (allowed line lower (gives lower)) c && (eqb (operandsIn line lower) (operandWords c) && eqb (resultsIn line lower) (resultWords c))
+
+-- THE TEST of an entry: each word with its upper byte
+abbrev pub entryAgrees : ℕ → (ℕ → Command) → ℕ → Bool
+entryAgrees line gives upper = eachBelow 256 (λ lower. agrees line gives lower (decodedBy (under upper table) (upper * 256 + lower)))
+
+agreed : (line : ℕ) (gives : ℕ → Command) (w : ℕ) (c : Command) → agrees line gives (w % 256) c ≡ true → c ≡ decoded w → RightEntry line gives w
+agreed line gives w c h e =
+    let lower = w % 256 in
+    let operands = eqb (operandsIn line lower) (operandWords c) in
+    let results = eqb (resultsIn line lower) (resultWords c) in
+    let parts = both-hold (same (allowed line lower (gives lower)) c) (operands && results) h in
+    let counts = both-hold operands results (parts .1) in
+    record {
+      command = same-is-equal (allowed line lower (gives lower)) c (parts .0) ∙ e;
+      operands = eqb-true (operandsIn line lower) (operandWords c) (counts .0) ∙ ap operandWords e;
+      results = eqb-true (resultsIn line lower) (resultWords c) (counts .1) ∙ ap resultWords e;
+    }
+
+whole : (w : ℕ) → w / 256 * 256 + w % 256 ≡ w
+whole w = omega arith
+
+at-its-upper-byte : (line : ℕ) (gives : ℕ → Command) (w : ℕ) → entryAgrees line gives (w / 256) ≡ true → RightEntry line gives w
+at-its-upper-byte line gives w h =
+    let rows = under (w / 256) table in
+    let found = decodedBy rows (w / 256 * 256 + w % 256) in
+    agreed line gives w found
+    (each-below 256 (λ lower. agrees line gives lower (decodedBy rows (w / 256 * 256 + lower))) h (w % 256) (omega arith))
+    (ap (decodedBy rows) (whole w) ∙ decoded-under w)
+
+upper-byte : (w key : ℕ) → w - w % 256 ≡ key → key / 256 ≡ w / 256
+upper-byte w key e = omega (arith, e)
+
+-- an entry stands by the first of the words that have its upper byte
+pub entry : {line lower key : ℕ} {c r : Command} (w : ℕ) (gives : ℕ → Command) → Allows line lower c r →
+    w - w % 256 ≡ key → lower ≡ w % 256 → c ≡ gives lower → entryAgrees line gives (key / 256) ≡ true → r ≡ decoded w
+entry {line} {lower} {key} w gives answered here low given h =
+    answered .answer ∙ ap (allowed line lower) given ∙ ap (λ (k : ℕ). allowed line k (gives k)) low
+    ∙ at-its-upper-byte line gives w (ap (entryAgrees line gives) (sym (upper-byte w key here)) ∙ h) .command
+
+-- "Words of 0x10000 and above" are no command
+abbrev within : List Row → Bool
+within [] = true
+within (r ∷ rs) = ltb (r .word) 0x10000 && within rs
+
+looked-up-beyond : (w : ℕ) (rows : List Row) → 0x10000 ≤ w → within rows ≡ true → lookedUp w rows ≡ Unknown
+looked-up-beyond w [] beyond h = refl
+looked-up-beyond w (r ∷ rs) beyond h =
+    let both = both-hold (ltb (r .word) 0x10000) (within rs) h in
+    rw (ne-eqb w (r .word) (λ e. omega (arith, beyond, e, ltb-true (r .word) 0x10000 (both .0)))) (looked-up-beyond w rs beyond (both .1))
+
+no-word-beyond : (w : ℕ) → 0x10000 ≤ w → decoded w ≡ Unknown
+unfolding decoded decodedWord
+no-word-beyond w beyond =
+    rw (ne-eqb (w / 16) 0x218 (λ e. omega (arith, beyond, e)), ne-eqb (w / 16) 0x208 (λ e. omega (arith, beyond, e)))
+    (looked-up-beyond w table beyond refl)
+
+-- the fill: what stands under an upper byte that has no entry
+abbrev nothing : ℕ → Command
+nothing lower = Unknown
+
+abbrev anyOf : List ℕ → ℕ → Bool
+anyOf [] x = false
+anyOf (k ∷ ks) x = eqb x k || anyOf ks x
+
+-- THE TEST of the fill: each word that has none of the entries' upper bytes
+abbrev pub fillAgrees : List ℕ → Bool
+fillAgrees keys = eachBelow 256 (λ upper. anyOf keys (upper * 256) || entryAgrees 0 nothing upper)
+
+or-second : (x y : Bool) → x ≡ false → (x || y) ≡ true → y ≡ true
+or-second x y none h = rw none at h
+
+cond-same : (t : Bool) → cond t Unknown Unknown ≡ Unknown
+cond-same true = refl
+cond-same false = refl
+
+pub fill : (w : ℕ) (keys : List ℕ) → anyOf keys (w - w % 256) ≡ false → fillAgrees keys ≡ true → decoded w ≡ Unknown
+fill w keys none h =
+    by-test (ltb w 0x10000)
+    (λ below.
+    let upper = w / 256 in
+    let here = each-below 256 (λ upper. anyOf keys (upper * 256) || entryAgrees 0 nothing upper) h upper (omega (arith, ltb-true w 0x10000 below)) in
+    let gap = or-second (anyOf keys (upper * 256)) (entryAgrees 0 nothing upper) (ap (anyOf keys) (omega arith) ∙ none) here in
+    sym (at-its-upper-byte 0 nothing w gap .command) ∙ cond-same (takes 0 (w % 256)))
+    (λ beyond. no-word-beyond w (omega (arith, ltb-false w 0x10000 beyond)))
+
+abbrev countsAgree : ℕ → Command → Size → Bool
+countsAgree line c size = eqb (wordsFor (operandDigits line) size) (operandWords c) && eqb (wordsFor line size) (resultWords c)
+
+pub counts-in : (line : ℕ) (c : Command) (size : Size) → countsAgree line c size ≡ true → countsIn line size ≡ countsOf c
+counts-in line c size h =
+    let both = both-hold (eqb (wordsFor (operandDigits line) size) (operandWords c)) (eqb (wordsFor line size) (resultWords c)) h in
+    rw (eqb-true (wordsFor (operandDigits line) size) (operandWords c) (both .0), eqb-true (wordsFor line size) (resultWords c) (both .1))
+
+-- a line whose command has a size is tried at each
+pub counts-in-each : (line : ℕ) (command : Size → Command) (size : Size) →
+    (countsAgree line (command Byte) Byte && (countsAgree line (command Word) Word && countsAgree line (command Long) Long)) ≡ true →
+    countsIn line size ≡ countsOf (command size)
+counts-in-each line command Byte h = counts-in line (command Byte) Byte (both-hold _ _ h .0)
+counts-in-each line command Word h =
+    counts-in line (command Word) Word (both-hold _ _ (both-hold (countsAgree line (command Byte) Byte) _ h .1) .0)
+counts-in-each line command Long h =
+    counts-in line (command Long) Long (both-hold (countsAgree line (command Word) Word) _ (both-hold (countsAgree line (command Byte) Byte) _ h .1) .1)
