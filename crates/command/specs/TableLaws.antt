@@ -212,33 +212,50 @@ no-word-beyond w beyond =
     rw (ne-eqb (w / 16) 0x218 (λ e. omega (arith, beyond, e)), ne-eqb (w / 16) 0x208 (λ e. omega (arith, beyond, e)))
     (looked-up-beyond w table beyond refl)
 
--- the fill: what stands under an upper byte that has no entry
-abbrev nothing : ℕ → Command
-nothing lower = Unknown
+abbrev isUnknown : Command → Bool
+isUnknown Unknown = true
+isUnknown Nop = false
+isUnknown (Load size base) = false
+isUnknown (Store size base) = false
+isUnknown (Show from) = false
+isUnknown (Change to) = false
+
+unknown-only : (c : Command) → isUnknown c ≡ true → c ≡ Unknown
+unknown-only Unknown h = refl
+unknown-only Nop h = cc
+unknown-only (Load size base) h = cc
+unknown-only (Store size base) h = cc
+unknown-only (Show from) h = cc
+unknown-only (Change to) h = cc
 
 abbrev anyOf : List ℕ → ℕ → Bool
 anyOf [] x = false
 anyOf (k ∷ ks) x = eqb x k || anyOf ks x
 
--- THE TEST of the fill: each word that has none of the entries' upper bytes
+-- the same test under an upper byte that has no entry: none of its words is a command
+abbrev isGap : ℕ → Bool
+isGap upper = eachBelow 256 (λ lower. isUnknown (decodedBy (under upper table) (upper * 256 + lower)))
+
+-- THE TEST of the fill: each upper byte that is none of the entries'
 abbrev pub fillAgrees : List ℕ → Bool
-fillAgrees keys = eachBelow 256 (λ upper. anyOf keys (upper * 256) || entryAgrees 0 nothing upper)
+fillAgrees keys = eachBelow 256 (λ upper. anyOf keys (upper * 256) || isGap upper)
 
 or-second : (x y : Bool) → x ≡ false → (x || y) ≡ true → y ≡ true
 or-second x y none h = rw none at h
 
-cond-same : (t : Bool) → cond t Unknown Unknown ≡ Unknown
-cond-same true = refl
-cond-same false = refl
+in-a-gap : (w : ℕ) → isGap (w / 256) ≡ true → decoded w ≡ Unknown
+in-a-gap w h =
+    let rows = under (w / 256) table in
+    let found = each-below 256 (λ lower. isUnknown (decodedBy rows (w / 256 * 256 + lower))) h (w % 256) (omega arith) in
+    sym (decoded-under w) ∙ ap (decodedBy rows) (sym (whole w)) ∙ unknown-only (decodedBy rows (w / 256 * 256 + w % 256)) found
 
 pub fill : (w : ℕ) (keys : List ℕ) → anyOf keys (w - w % 256) ≡ false → fillAgrees keys ≡ true → decoded w ≡ Unknown
 fill w keys none h =
     by-test (ltb w 0x10000)
     (λ below.
     let upper = w / 256 in
-    let here = each-below 256 (λ upper. anyOf keys (upper * 256) || entryAgrees 0 nothing upper) h upper (omega (arith, ltb-true w 0x10000 below)) in
-    let gap = or-second (anyOf keys (upper * 256)) (entryAgrees 0 nothing upper) (ap (anyOf keys) (omega arith) ∙ none) here in
-    sym (at-its-upper-byte 0 nothing w gap .command) ∙ cond-same (takes 0 (w % 256)))
+    let here = each-below 256 (λ upper. anyOf keys (upper * 256) || isGap upper) h upper (omega (arith, ltb-true w 0x10000 below)) in
+    in-a-gap w (or-second (anyOf keys (upper * 256)) (isGap upper) (ap (anyOf keys) (omega arith) ∙ none) here))
     (λ beyond. no-word-beyond w (omega (arith, ltb-false w 0x10000 beyond)))
 
 abbrev countsAgree : ℕ → Command → Size → Bool
