@@ -100,7 +100,7 @@ fn counts_in(line: u64, size: Size) -> Counts
     }
 }
 
-// Where no size is sent, any will do.
+// By the size that stands in the command's word.
 pub fn counts_of(command: Command) -> Counts
     ensures { λ r. ⌜ r ≡ countsOf command ⌝ }
 {
@@ -109,7 +109,7 @@ pub fn counts_of(command: Command) -> Counts
             operands: 0,
             results: 0,
         },
-        Command::Nop => counts_in(table::NOP, Size::Long),
+        Command::Nop => counts_in(table::NOP, Size::Byte),
         Command::Load(size, base) => match base {
             Base::Address => counts_in(table::READ, size),
             Base::Pointer => counts_in(table::DUMP, size),
@@ -127,8 +127,8 @@ pub fn counts_of(command: Command) -> Counts
             Target::General(_) => counts_in(table::WDREG, Size::Long),
             Target::Control => counts_in(table::WCREG, Size::Long),
             Target::Debug(_) => counts_in(table::WDMREG, Size::Long),
-            Target::Run => counts_in(table::GO, Size::Long),
-            Target::Sync => counts_in(table::NOP, Size::Long),
+            Target::Run => counts_in(table::GO, Size::Byte),
+            Target::Sync => counts_in(table::NOP, Size::Byte),
         },
     }
 }

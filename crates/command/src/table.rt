@@ -12,9 +12,9 @@ use crate::lines::size_in;
 
 // A line's digits, from the left. Four for the numbers that bits 3 to 0 of a lower byte may be, a bit for each; one for the sizes that
 // bits 7 and 6 may be, a bit for each; operand words, then result words, a digit for a byte, a word and a longword.
-pub const RDREG: u64 = 0xFFFF_4_000_222;
+pub const RDREG: u64 = 0xFFFF_4_000_002;
 
-pub const WDREG: u64 = 0xFFFF_4_222_000;
+pub const WDREG: u64 = 0xFFFF_4_002_000;
 
 pub const READ: u64 = 0x0001_7_222_112;
 
@@ -28,13 +28,13 @@ pub const GO: u64 = 0x0001_1_000_000;
 
 pub const NOP: u64 = 0x0003_1_000_000;
 
-pub const RCREG: u64 = 0x0001_4_222_222;
+pub const RCREG: u64 = 0x0001_4_002_002;
 
-pub const WCREG: u64 = 0x0001_4_444_000;
+pub const WCREG: u64 = 0x0001_4_004_000;
 
-pub const RDMREG: u64 = 0x0001_4_000_222;
+pub const RDMREG: u64 = 0x0001_4_000_002;
 
-pub const WDMREG: u64 = 0xF3E1_4_222_000;
+pub const WDMREG: u64 = 0xF3E1_4_002_000;
 
 // An entry: the first word of its upper byte; its line; the command of a word whose lower byte the line has.
 pub fn decode(word: u32) -> Command

@@ -42,20 +42,15 @@ fn end_access(access: Access) -> Ending
 {
     match access {
         Access::NoAccess => Ending::Complete,
-        Access::Fetched(size, value, _) => match size {
-            Size::Byte => end_value(
-                Command::Load(Size::Byte, Base::Address),
-                Fetch::Value(value),
-            ),
-            Size::Word => end_value(
-                Command::Load(Size::Word, Base::Address),
-                Fetch::Value(value),
-            ),
-            Size::Long => end_value(
-                Command::Load(Size::Long, Base::Address),
-                Fetch::Value(value),
-            ),
-        },
+        // An arm for each size, so that the compiler knows the count.
+        Access::Fetched(size, value, _) => {
+            let found = Fetch::Value(value);
+            match size {
+                Size::Byte => end_value(Command::Load(Size::Byte, Base::Address), found),
+                Size::Word => end_value(Command::Load(Size::Word, Base::Address), found),
+                Size::Long => end_value(Command::Load(Size::Long, Base::Address), found),
+            }
+        }
         Access::Stored(_) => Ending::Complete,
         Access::Missing => Ending::Failed,
     }
