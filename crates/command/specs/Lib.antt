@@ -1,5 +1,6 @@
 pub mod Command
 pub mod CommandLaws
+pub mod CommandWordLaws
 pub mod TableMirror
 pub mod TableLaws
 pub mod Reply
