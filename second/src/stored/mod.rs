@@ -6,6 +6,7 @@ mod commands;
 mod conversations;
 mod drops;
 mod events;
+mod every_word;
 mod firing;
 mod gateway;
 mod illegal;
@@ -46,6 +47,7 @@ pub fn all() -> Vec<Stored> {
     stored.extend(chains::all());
     stored.extend(drops::all());
     stored.extend(illegal::all());
+    stored.extend(every_word::all());
     stored.extend(sequences::all());
     stored.extend(events::all());
     stored.extend(firing::all());

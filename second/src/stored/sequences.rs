@@ -63,7 +63,7 @@ fn fresh(s: &mut Writer<StandIn>, w: u32, before: &[u32]) {
 }
 
 /// The words of a command up to the phase of rest, without the packet that carries the last reply out.
-fn send(s: &mut Writer<StandIn>, words: &[u32]) {
+pub fn send(s: &mut Writer<StandIn>, words: &[u32]) {
     s.packets(words);
     s.drain();
 }
