@@ -1,11 +1,12 @@
 -- Packets (01): the memory access of READ, WRITE, DUMP and FILL, and the pointer.
 use Prim.Native.Nat.{ℕ, _+_, _%_, _^_}
-use mathlib.Core.Bool.{cond}
 use mathlib.Core.List.{List}
 use Rattle.memory.specs.declared.Size.{Size}
 use Rattle.memory.specs.declared.Fetch.{Fetch}
-use Rattle.memory.specs.declared.Fetch.the-variants.{Value, BusError}
-use Rattle.memory.specs.Memory.{bytes, aligned, present, fetched, stored}
+use Rattle.memory.specs.declared.Fetch.the-variants as fetch
+use Rattle.memory.specs.declared.Reach.{Reach}
+use Rattle.memory.specs.declared.Reach.the-variants.{Whole, Short}
+use Rattle.memory.specs.Memory.{bytes, aligned, fetched, stored, reach}
 use Rattle.command.specs.declared.Command.{Command}
 use Rattle.command.specs.declared.Command.the-variants.{Unknown, Nop, Load, Store, Show, Change}
 use Rattle.command.specs.declared.Base.{Base}
@@ -17,16 +18,20 @@ use Rattle.access.specs.declared.Access.the-variants.{NoAccess, Fetched,
 abbrev pub past : Size → ℕ → ℕ
 past size address = (aligned size address + bytes size) % 2 ^ 32
 
--- "An access with any byte beyond memory is a bus error and alters nothing": it is missing
+-- "An access with any byte beyond memory is a bus error and alters nothing"; [4] "shall also answer the lowest address of the access that isn't there"
 abbrev pub fetchedAccess : Size → ℕ → Fetch → Access
-fetchedAccess s past (Value v) = Fetched s v past
-fetchedAccess s past BusError = Missing
+fetchedAccess s past (fetch.Value v) = Fetched s v past
+fetchedAccess s past (fetch.Missing first) = Missing first
+
+abbrev pub storedAccess : ℕ → Reach → Access
+storedAccess past Whole = Stored past
+storedAccess past (Short first) = Missing first
 
 abbrev pub fetching : List ℕ → Size → ℕ → Access
 fetching m s a = fetchedAccess s (past s a) (fetched m s a)
 
 abbrev pub storing : List ℕ → Size → ℕ → Access
-storing m s a = cond (present m s a) (Stored (past s a)) Missing
+storing m s a = storedAccess (past s a) (reach m s a)
 
 -- READ and WRITE access their address; of DUMP and FILL "each accesses the pointer"
 abbrev pub startOf : Base → ℕ → ℕ → ℕ
@@ -55,4 +60,4 @@ abbrev pub pointerAfter : Access → ℕ → ℕ
 pointerAfter NoAccess pointer = pointer
 pointerAfter (Fetched s v past) pointer = past
 pointerAfter (Stored past) pointer = past
-pointerAfter Missing pointer = pointer
+pointerAfter (Missing first) pointer = pointer

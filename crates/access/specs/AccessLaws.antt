@@ -6,7 +6,7 @@ use mathlib.Core.Bool.{true}
 use mathlib.Core.List.{List}
 use native.Mathlib.Omega.{arith}
 use Rattle.memory.specs.declared.Size.{Size}
-use Rattle.memory.specs.Memory.{present, fetched, stored}
+use Rattle.memory.specs.Memory.{present, fetched, stored, reach}
 use Rattle.command.specs.declared.Command.{Command}
 use Rattle.command.specs.declared.Command.the-variants.{Unknown, Nop, Load, Store, Show, Change}
 use Rattle.command.specs.declared.Base.{Base}
@@ -39,6 +39,7 @@ load-moves-pointer s base m pointer address e = rw e
 
 pub store-moves-pointer : (s : Size) (base : Base) (m : List ℕ) (pointer address : ℕ) → present m s (startOf base pointer address) ≡ true
     → pointerAfter (accessOf (Store s base) m pointer address) pointer ≡ past s (startOf base pointer address)
+unfolding reach
 store-moves-pointer s base m pointer address e = rw e
 
 -- "The pointer is kept modulo 2^32."

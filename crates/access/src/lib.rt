@@ -5,6 +5,7 @@ ghost use Rattle.memory.specs.Memory.{stored};
 use command::Base;
 use command::Command;
 use memory::Fetch;
+use memory::Reach;
 use memory::Size;
 
 // What a command's access to memory found.
@@ -14,8 +15,8 @@ pub enum Access {
     Fetched(Size, u32, u32),
     // The pointer past it.
     Stored(u32),
-    // Some byte of it lies beyond memory.
-    Missing,
+    // The lowest address of it that is not there.
+    Missing(u32),
 }
 
 fn past_access(size: Size, address: u32) -> u32
@@ -32,17 +33,17 @@ fn fetch_access(memory: &[u8], size: Size, address: u32) -> Access
     let end = past_access(size, address);
     match memory::fetch_at(memory, size, address) {
         Fetch::Value(value) => Access::Fetched(size, value, end),
-        Fetch::BusError => Access::Missing,
+        Fetch::Missing(first) => Access::Missing(first),
     }
 }
 
 fn store_access(memory: &mut [u8], size: Size, address: u32, value: u32) -> Access
     ensures { λ r. ⌜ (r ≡ storing (now (memory .entry)) size address) × (now (memory .exit) ≡ stored (now (memory .entry)) size address value) ⌝ }
 {
-    if memory::store_at(memory, size, address, value) {
-        return Access::Stored(past_access(size, address));
+    match memory::store_at(memory, size, address, value) {
+        Reach::Whole => Access::Stored(past_access(size, address)),
+        Reach::Short(first) => Access::Missing(first),
     }
-    Access::Missing
 }
 
 fn start(base: Base, pointer: u32, address: u32) -> u32
@@ -83,6 +84,6 @@ pub fn pointer_after(access: Access, pointer: u32) -> u32
         Access::NoAccess => pointer,
         Access::Fetched(_, _, end) => end,
         Access::Stored(end) => end,
-        Access::Missing => pointer,
+        Access::Missing(_) => pointer,
     }
 }

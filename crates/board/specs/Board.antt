@@ -10,6 +10,7 @@ use mathlib.Core.Path.{_≡_}
 use Rattle.grounds.specs.Grounds.{check, judge, told}
 use Rattle.command.specs.Reply.{complete}
 use Rattle.board.specs.declared.Board.{Board}
+use Rattle.board.specs.declared.Fault.the-variants.{NoFault}
 use Rattle.board.specs.declared.Place.{Place}
 use Rattle.board.specs.declared.Made.{Made}
 use Rattle.board.specs.declared.Phase.{Phase}
@@ -23,6 +24,7 @@ freshBoard w = record {
   status = record { halted = true; fof = false; trg = false; halt = false; bkpt = true; bstat = 0; sync = false };
   registers = record { general = replicate 16 0; control = replicate 10 0 };
   debug = record { csr = 0; baar = 0x05; aatr = 0x0005; tdr = 0; pbr = 0; pbmr = 0; abhr = 0; ablr = 0; dbr = 0; dbmr = 0 };
+  fault = NoFault;
 }
 
 unfoldable pub freshPlace : Place

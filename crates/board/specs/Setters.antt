@@ -6,22 +6,26 @@ use Rattle.board.specs.declared.Board.{Board}
 use Rattle.board.specs.declared.Status.{Status}
 use Rattle.board.specs.declared.Registers.{Registers}
 use Rattle.board.specs.declared.Debug.{Debug}
+use Rattle.board.specs.declared.Fault.{Fault}
 use Rattle.board.specs.declared.Place.{Place}
 use Rattle.board.specs.declared.Phase.{Phase}
 use Rattle.board.specs.declared.Chain.{Chain}
 
 -- ---- the board
 abbrev pub withW : Board → ℕ → Board
-withW b w = record { w = w; status = b .status; registers = b .registers; debug = b .debug }
+withW b w = record { w = w; status = b .status; registers = b .registers; debug = b .debug; fault = b .fault }
 
 abbrev pub withStatus : Board → Status → Board
-withStatus b s = record { w = b .w; status = s; registers = b .registers; debug = b .debug }
+withStatus b s = record { w = b .w; status = s; registers = b .registers; debug = b .debug; fault = b .fault }
 
 abbrev pub withRegisters : Board → Registers → Board
-withRegisters b r = record { w = b .w; status = b .status; registers = r; debug = b .debug }
+withRegisters b r = record { w = b .w; status = b .status; registers = r; debug = b .debug; fault = b .fault }
 
 abbrev pub withDebug : Board → Debug → Board
-withDebug b d = record { w = b .w; status = b .status; registers = b .registers; debug = d }
+withDebug b d = record { w = b .w; status = b .status; registers = b .registers; debug = d; fault = b .fault }
+
+abbrev pub withFault : Board → Fault → Board
+withFault b f = record { w = b .w; status = b .status; registers = b .registers; debug = b .debug; fault = f }
 
 -- ---- its registers
 abbrev pub withGeneral : Registers → List ℕ → Registers

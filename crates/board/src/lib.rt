@@ -2,7 +2,7 @@
 ghost use mathlib.Core.Path.{_≡_};
 ghost use Rattle.board.specs.Board.{freshBoard, freshPlace, MakingMeets};
 ghost use Rattle.board.specs.State.{standingOf};
-ghost use Rattle.board.specs.Setters.{placeWith};
+ghost use Rattle.board.specs.Setters.{withFault, placeWith};
 use command::Command;
 use grounds::Ground;
 use grounds::Verdict;
@@ -39,12 +39,19 @@ pub struct Debug {
     pub dbmr: u32,
 }
 
+// The lowest address that was not there at the last bus error of a memory command; none after a command word other than NOP.
+pub enum Fault {
+    NoFault,
+    FaultAt(u32),
+}
+
 // What all who talk to the board share.
 pub struct Board {
     pub w: u32,
     pub status: Status,
     pub registers: Registers,
     pub debug: Debug,
+    pub fault: Fault,
 }
 
 // The operand words taken, the last four, oldest first.
@@ -122,6 +129,7 @@ fn new_board(w: u32) -> Board
             dbr: 0,
             dbmr: 0,
         },
+        fault: Fault::NoFault,
     }
 }
 
@@ -160,6 +168,21 @@ pub fn standing_of(board: Board, place: Place) -> Standing
     Standing {
         halted: board.status.halted,
         chain: chain,
+    }
+}
+
+pub fn set_fault(board: Board, fault: Fault) -> Board
+    ensures { λ r. ⌜ r ≡ withFault board fault ⌝ }
+{
+    let status = board.status;
+    let registers = board.registers;
+    let debug = board.debug;
+    Board {
+        w: board.w,
+        status: status,
+        registers: registers,
+        debug: debug,
+        fault: fault,
     }
 }
 

@@ -4,10 +4,10 @@ use mathlib.Core.Bool.{Bool, cond}
 use mathlib.Core.List.{List, [], _∷_}
 use lib.Dec.{eqb, ltb}
 use lib.ListN.{getD, set}
-use Rattle.memory.specs.declared.Fetch.{Fetch}
-use Rattle.memory.specs.declared.Fetch.the-variants.{Value, BusError}
 use Rattle.board.specs.declared.Board.{Board}
 use Rattle.board.specs.Setters.{withRegisters, withGeneral, withControl}
+use Rattle.control.specs.declared.Shown.{Shown}
+use Rattle.control.specs.declared.Shown.the-variants.{Value, BusError}
 
 -- "Control registers: .."
 abbrev pub controlNumbers : List ℕ
@@ -25,7 +25,7 @@ controlIndex n = indexIn controlNumbers n
 abbrev pub controlListed : ℕ → Bool
 controlListed n = ltb (controlIndex n) 10
 
-unfoldable pub controlFetched : Board → ℕ → Fetch
+unfoldable pub controlFetched : Board → ℕ → Shown
 controlFetched b n = cond (controlListed n) (Value (getD (b .registers .control) (controlIndex n) 0)) BusError
 
 unfoldable pub controlWritten : Board → ℕ → ℕ → Board

@@ -4,7 +4,12 @@ ghost use Prim.Native.Nat.{_%_};
 ghost use lib.ListN.{getD};
 ghost use Rattle.control.specs.Control.{controlIndex, controlListed, controlFetched, controlWritten, generalWritten};
 use board::Board;
-use memory::Fetch;
+
+// A register's value; a control register that is not listed is a bus error.
+pub enum Shown {
+    Value(u32),
+    BusError,
+}
 
 // The index among the ten control registers; 10 for a number that is none of them.
 fn index_of(number: u32) -> usize
@@ -39,15 +44,15 @@ pub fn is_listed(number: u32) -> bool
     index_of(number) < 10
 }
 
-pub fn fetch_control(board: Board, number: u32) -> Fetch
+pub fn fetch_control(board: Board, number: u32) -> Shown
     ensures { λ r. ⌜ r ≡ controlFetched board number ⌝ }
 {
     let i = index_of(number);
     if i < 10 {
         let registers = board.registers;
-        return Fetch::Value(registers.control[i]);
+        return Shown::Value(registers.control[i]);
     }
-    Fetch::BusError
+    Shown::BusError
 }
 
 pub fn set_control(board: Board, number: u32, value: u32) -> Board

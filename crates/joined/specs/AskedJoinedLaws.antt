@@ -11,6 +11,7 @@ use Rattle.command.specs.Reply.{complete, illegal}
 use Rattle.board.specs.declared.Chain.the-variants.{Dumping}
 use Rattle.board.specs.State.{State}
 use Rattle.step.specs.Step.{stepped}
+use Rattle.sound.specs.SoundLaws.{fault-keeps}
 use Rattle.sound.specs.Sound.{Sound}
 use Rattle.requests.specs.declared.Request.{Request}
 use Rattle.requests.specs.declared.Request.the-variants.{Read, Dump}
@@ -48,7 +49,7 @@ module _ (address j : ℕ) (s : Scene) where
 -- at rest with no chain, what stands there is as sound
 pub unchained-sound : {s : State} → Sound s → Sound (resting (unchained (sceneOf s)) complete)
 unchained-sound f =
-    record { board = f .board; place = record { phase = tt; next = omega arith; pointer = f .place .pointer }; memory = f .memory }
+    record { board = fault-keeps _ (f .board); place = record { phase = tt; next = omega arith; pointer = f .place .pointer }; memory = f .memory }
 
 pub asked-keeps-sound : (address j : ℕ) (s : Scene) → Sound (resting s complete) → Sound (resting (leavesThere (requestAt address j) s) complete)
 asked-keeps-sound address j s f =

@@ -25,6 +25,8 @@ use Rattle.plan.specs.declared.Plan.{Plan}
 use Rattle.plan.specs.declared.Plan.the-variants.{Hold, Reject, Release, Work}
 use Rattle.plan.specs.Plan.{withOperand, addressIn, valueIn, waitsOf, workAfter, collected, continued, planOf}
 use Rattle.plan.specs.PlanLaws.{nop-plan}
+use Rattle.control.specs.Control.{controlFetched}
+use Rattle.step.specs.StepFaultLaws.{step-place}
 use Rattle.step.specs.Step.{replyIn, replyNow, left, planFor, stepped}
 use Rattle.requests.specs.declared.ResultKind.{ResultKind}
 use Rattle.requests.specs.declared.ResultKind.the-variants.{NoResult, OfSize}
@@ -33,7 +35,7 @@ use Rattle.sound.specs.SoundPlanLaws.{PlanWithin, plan-within}
 use Rattle.round_trip.specs.Meaning.{Scene}
 use Rattle.round_trip.specs.RoundTrip.{sceneOf}
 use Rattle.round_trip.specs.ClosesLaws.{Fits}
-use Rattle.round_trip.specs.MeantWorkLaws.{workEnding, Sized, sound-is-sized, load-meant, store-meant, read-control-meant, csr-fits}
+use Rattle.round_trip.specs.MeantWorkLaws.{wordCleared, workEnding, Sized, sound-is-sized, load-meant, store-meant, read-control-meant, csr-fits}
 
 -- ---- the work's first reply is data, "complete" or a bus error
 fits-no-illegal : (kind : ResultKind) (e : Ending) → Fits kind e → firstReply e ≤ busError
@@ -53,17 +55,22 @@ change-no-illegal true = omega arith
 change-no-illegal false = omega arith
 
 module _ (s : Scene) (sized : Sized s) (address : ℕ) where
+  cleared-sized : Sized (wordCleared s)
+  cleared-sized = record { bytes = sized .bytes; general = sized .general; control = sized .control }
+
   shown-no-illegal : (from : Source) → firstReply (workEnding (Show from) address s) ≤ busError
+  unfolding controlFetched
   shown-no-illegal (source.General n) = omega (arith, sized .general (n % 16))
   shown-no-illegal source.Control =
-      fits-no-illegal (OfSize Long) (workEnding (Show source.Control) address s) (read-control-meant s address 0 .fits sized)
+      fits-no-illegal (OfSize Long) (workEnding (Show source.Control) address s) (read-control-meant s address 0 .fits cleared-sized)
   shown-no-illegal source.Csr = omega (arith, csr-fits (s .board))
 
   work-no-illegal : (c : Command) → firstReply (workEnding c address s) ≤ busError
   work-no-illegal Unknown = omega arith
   work-no-illegal Nop = omega arith
-  work-no-illegal (Load size base) = fits-no-illegal (OfSize size) (workEnding (Load size base) address s) (load-meant size s base address 0 .fits sized)
-  work-no-illegal (Store size base) = fits-no-illegal NoResult (workEnding (Store size base) address s) (store-meant size s base address 0 .fits sized)
+  work-no-illegal (Load size base) =
+      fits-no-illegal (OfSize size) (workEnding (Load size base) address s) (load-meant size s base address 0 .fits cleared-sized)
+  work-no-illegal (Store size base) = fits-no-illegal NoResult (workEnding (Store size base) address s) (store-meant size s base address 0 .fits cleared-sized)
   work-no-illegal (Show from) = shown-no-illegal from
   work-no-illegal (Change target) = change-no-illegal (reached target address)
 
@@ -114,8 +121,9 @@ nop-taken (Upper low) s w = tt
 
 -- After a NOP the port's next reply is not 1FFFF, from every state that is sound.
 pub nop-never-illegal : {s : State} → Sound s → replyNow (stepped s 0 .place) ≡ illegal → ⊥
-unfolding stepped planFor
+unfolding planFor
 nop-never-illegal {s} f e =
+    let answered : replyNow (left (planFor (s .board) (s .place) 0) s .place) ≡ illegal = rw (step-place s 0) at e in
     let standing = standingOf (s .board) (s .place) in
     let plan = planOf (s .place .phase) standing (s .board .w) 0 in
     let small : replyNow (left plan s .place) ≤ busError =
@@ -124,10 +132,11 @@ nop-never-illegal {s} f e =
 
 -- And where it is 1FFFF after a packet, the port is at rest.
 pub illegal-is-at-rest : {s : State} → Sound s → (word : ℕ) → replyNow (stepped s word .place) ≡ illegal → stepped s word .place .phase ≡ Rest
-unfolding stepped planFor
+unfolding planFor
 illegal-is-at-rest {s} f word =
-    by-plan (planOf (s .place .phase) (standingOf (s .board) (s .place)) (s .board .w) word)
-    (plan-within (s .place .phase) (standingOf (s .board) (s .place)) (s .board .w) word (f .place .phase))
+    rw (step-place s word)
+    (by-plan (planOf (s .place .phase) (standingOf (s .board) (s .place)) (s .board .w) word)
+    (plan-within (s .place .phase) (standingOf (s .board) (s .place)) (s .board .w) word (f .place .phase)))
   where
     by-plan : (plan : Plan) → PlanWithin (s .board .w) plan → replyNow (left plan s .place) ≡ illegal → left plan s .place .phase ≡ Rest
     by-plan (Hold phase) h e = absurd (omega (arith, taken-no-illegal s f (Hold phase) h tt))

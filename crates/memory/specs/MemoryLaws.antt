@@ -1,13 +1,17 @@
--- Laws of memory: a store keeps the length and the bytes, and a fetch stays within its size.
-use Prim.Native.Nat.{ℕ, zero, suc, _+_, _/_, _%_, _<_}
+-- Laws of memory: a store keeps the length and the bytes, and a fetch stays within its size; the lowest address that is not there.
+use Prim.Native.Nat.{ℕ, zero, suc, _+_, _/_, _%_, _^_, _≤_, _<_}
+use native.Mathlib.Nat.{le-refl}
 use native.Mathlib.Omega.{arith}
 use mathlib.Core.Path.{_≡_, refl}
+use mathlib.Core.Bool.{false}
 use mathlib.Core.List.{List, [], _∷_}
-use Rattle.laws.specs.TestLaws.{either}
+use lib.Dec.{leb}
+use borrow.Author.Tests.{leb-true, leb-false}
+use Rattle.laws.specs.TestLaws.{either, by-test}
 use lib.ListN.{length, set, length-set}
 use Rattle.memory.specs.declared.Size.{Size}
 use Rattle.memory.specs.declared.Size.the-variants.{Byte, Word, Long}
-use Rattle.memory.specs.Memory.{AllBelow, aligned, present, valueAt, putAt, putWord, stored}
+use Rattle.memory.specs.Memory.{AllBelow, bytes, aligned, present, firstMissing, valueAt, putAt, putWord, stored}
 
 pub set-keeps-below : (k : ℕ) (l : List ℕ) (j x : ℕ) → AllBelow k l → x < k → AllBelow k (set l j x)
 set-keeps-below k [] j x h f i = h i
@@ -49,3 +53,37 @@ pub value-within : (m : List ℕ) (s : Size) (at : ℕ) → AllBelow 256 m → v
 value-within m Byte at h = h at
 value-within m Word at h = omega (arith, h at, h (at + 1))
 value-within m Long at h = omega (arith, h at, h (at + 1), h (at + 2), h (at + 2 + 1))
+
+-- an access ends at 2^32 at the latest, so that memory which ends within one is shorter
+access-ends : (s : Size) (a : ℕ) → a < 2 ^ 32 → aligned s a + bytes s ≤ 2 ^ 32
+access-ends Byte a h = omega arith
+access-ends Word a h = omega arith
+access-ends Long a h = omega arith
+
+pub missing-fits : (m : List ℕ) (s : Size) (a : ℕ) → a < 2 ^ 32 → present m s a ≡ false → length m < 2 ^ 32
+missing-fits m s a h e = omega (arith, access-ends s a h, leb-false (aligned s a + bytes s) (length m) e)
+
+some-byte : (s : Size) → 1 ≤ bytes s
+some-byte Byte = omega arith
+some-byte Word = omega arith
+some-byte Long = omega arith
+
+-- [4] "the lowest address of the access that isn't there": one of its own, beyond memory, and every lower one of the access is there
+pub record LowestMissing (m : List ℕ) (s : Size) (a first : ℕ) : Type 0 where
+  pub from : aligned s a ≤ first
+  pub within : first < aligned s a + bytes s
+  pub beyond : length m ≤ first
+  pub lower : (k : ℕ) → aligned s a ≤ k → k < first → k < length m
+
+pub lowest-missing : (m : List ℕ) (s : Size) (a : ℕ) → present m s a ≡ false → LowestMissing m s a (firstMissing m s a)
+lowest-missing m s a e =
+    let start : ℕ = aligned s a in
+    let short : length m < start + bytes s = leb-false (start + bytes s) (length m) e in
+    let some : 1 ≤ bytes s = some-byte s in
+    by-test (leb (length m) start)
+    (λ t.
+    let past : length m ≤ start = leb-true (length m) start t in
+    rw t (record { from = le-refl start; within = omega (arith, some); beyond = past; lower = λ k f g. absurd (omega arith) }))
+    (λ t.
+    let there : start < length m = leb-false (length m) start t in
+    rw t (record { from = omega (arith, there); within = short; beyond = le-refl (length m); lower = λ k f g. g }))

@@ -1,8 +1,9 @@
 // Lent memory at address 0, most significant byte first (01, "Packets").
 ghost use mathlib.Core.Path.{_≡_};
+ghost use mathlib.Core.Bool.{false};
 ghost use Prim.Native.Nat.{_+_, _≤_, _<_};
 ghost use lib.ListN.{length};
-ghost use Rattle.memory.specs.Memory.{bytes, aligned, present, wordAt, valueAt, fetched, putWord, putAt, stored};
+ghost use Rattle.memory.specs.Memory.{bytes, aligned, present, firstMissing, wordAt, valueAt, fetched, putWord, putAt, stored, reach};
 
 pub enum Size {
     Byte,
@@ -10,9 +11,16 @@ pub enum Size {
     Long,
 }
 
+// The value, or the lowest address of the access that is not there.
 pub enum Fetch {
     Value(u32),
-    BusError,
+    Missing(u32),
+}
+
+// Memory reaches over the whole access, or the lowest address of it that is not there.
+pub enum Reach {
+    Whole,
+    Short(u32),
 }
 
 pub fn byte_count(size: Size) -> u32
@@ -43,6 +51,18 @@ pub fn is_present(memory: &[u8], size: Size, address: u32) -> bool
     at + n <= memory.len()
 }
 
+fn first_missing(memory: &[u8], size: Size, address: u32) -> u32
+    requires { ⌜ present (now memory) size address ≡ false ⌝ }
+    ensures { λ r. ⌜ r ≡ firstMissing (now (memory .entry)) size address ⌝ }
+{
+    let at = align(size, address) as usize;
+    let end = memory.len();
+    if end <= at {
+        return at as u32;
+    }
+    end as u32
+}
+
 fn word_at(memory: &[u8], at: usize) -> u32
     requires { ⌜ at + 2 ≤ length (now memory) ⌝ }
     ensures { λ r. ⌜ (r ≡ wordAt (now (memory .entry)) at) × (r < 65536) ⌝ }
@@ -68,7 +88,7 @@ pub fn fetch_at(memory: &[u8], size: Size, address: u32) -> Fetch
         let at = align(size, address) as usize;
         return Fetch::Value(value_at(memory, size, at));
     }
-    Fetch::BusError
+    Fetch::Missing(first_missing(memory, size, address))
 }
 
 fn put_word(memory: &mut [u8], at: usize, value: u32)
@@ -97,14 +117,14 @@ fn put_at(memory: &mut [u8], size: Size, at: usize, value: u32)
     }
 }
 
-// Whether every byte of the access was there; if not, nothing is stored.
-pub fn store_at(memory: &mut [u8], size: Size, address: u32, value: u32) -> bool
-    ensures { λ r. ⌜ (r ≡ present (now (memory .entry)) size address) × (now (memory .exit) ≡ stored (now (memory .entry)) size address value) ⌝ }
+// Where a byte of the access is not there, nothing is stored.
+pub fn store_at(memory: &mut [u8], size: Size, address: u32, value: u32) -> Reach
+    ensures { λ r. ⌜ (r ≡ reach (now (memory .entry)) size address) × (now (memory .exit) ≡ stored (now (memory .entry)) size address value) ⌝ }
 {
     if is_present(memory, size, address) {
         let at = align(size, address) as usize;
         put_at(memory, size, at, value);
-        return true;
+        return Reach::Whole;
     }
-    false
+    Reach::Short(first_missing(memory, size, address))
 }

@@ -12,6 +12,19 @@ use Rattle.plan.specs.declared.Plan.{Plan}
 use Rattle.plan.specs.declared.Plan.the-variants.{Hold, Reject, Release, Work}
 use Rattle.legality.specs.Legality.{legalCommand}
 
+-- what a packet's input is taken for
+pub data Input : Type 0 where
+  commandWord : Input
+  operand : Input
+  ignored : Input
+
+-- "Every packet accepted at rest is a command word taken"; an operand while one is due; else the input is ignored
+abbrev pub takenFor : Phase → Input
+takenFor Rest = commandWord
+takenFor (Due c left t) = operand
+takenFor (Waiting c left address value) = ignored
+takenFor (Upper low) = ignored
+
 -- "A packet has 17 bits: C (bit 16) and 16 data bits."
 abbrev pub carriesC : ℕ → Bool
 carriesC word = leb 0x10000 word

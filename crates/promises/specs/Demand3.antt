@@ -57,8 +57,10 @@ pub record SameButStatus (a b : Board) : Type 0 where
   pub setting : a .w ≡ b .w
   -- the same general and control registers,
   pub registers : a .registers ≡ b .registers
-  -- and the same debug registers.
+  -- the same debug registers,
   pub debug : a .debug ≡ b .debug
+  -- and [4] the same address that was not there, or none.
+  pub fault : a .fault ≡ b .fault
 
 -- NOPs with events and breakpoint inputs between them, against the same NOPs in a row.
 pub record Unmoved (k : Machine) (s : State) (ms : List Lent) (idle : List Call) : Type 0 where

@@ -25,6 +25,7 @@ use Rattle.work.specs.Work.{endingOf, phaseAfter}
 use Rattle.plan.specs.declared.Plan.{Plan}
 use Rattle.plan.specs.declared.Plan.the-variants.{Hold, Reject, Release, Work}
 use Rattle.plan.specs.Plan.{carriesC, legalWord, noOperands, withOperand, addressIn, valueIn, waitsOf, workAfter, collected, begun, continued, planOf}
+use Rattle.step.specs.StepFaultLaws.{step-place}
 use Rattle.step.specs.Step.{left, planFor, stepped}
 use Rattle.port.specs.Packet.{packetVerdict}
 use Rattle.promises.specs.Machine.{standIn}
@@ -97,9 +98,10 @@ left-holds (Release low) s h = omega arith
 left-holds (Work c a v) s h = ending-holds-none (endingOf c (s .board) a (accessOf c (s .memory) (s .place .pointer) a))
 
 pub packet-keeps-register : (s : State) (word : ℕ) → registerHeld (s .place .phase) < 16 → registerHeld (stepped s word .place .phase) < 16
-unfolding stepped planFor
+unfolding planFor
 packet-keeps-register s word h =
-    left-holds (planFor (s .board) (s .place) word) s (plan-holds (s .place .phase) (standingOf (s .board) (s .place)) (s .board .w) word h)
+    rw (step-place s word)
+    (left-holds (planFor (s .board) (s .place) word) s (plan-holds (s .place .phase) (standingOf (s .board) (s .place)) (s .board .w) word h))
 
 call-keeps-register : (s : State) (c : Call) → registerHeld (s .place .phase) < 16 → registerHeld (afterCall standIn s c .place .phase) < 16
 call-keeps-register s (packet m word) h = by (packetVerdict (lending s m) word)

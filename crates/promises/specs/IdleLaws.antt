@@ -39,7 +39,7 @@ record StillAlike (s r : State) (ms : List Lent) (idle : List Call) : Type 0 whe
   hands : handed standIn (s .place) (finds standIn s idle) ≡ handed standIn (r .place) (finds standIn r (nops ms))
 
 same-with-status : (a b : Board) (s : Status) → SameButStatus a b → SameButStatus (withStatus a s) b
-same-with-status a b s h = record { setting = h .setting; registers = h .registers; debug = h .debug }
+same-with-status a b s h = record { setting = h .setting; registers = h .registers; debug = h .debug; fault = h .fault }
 
 module _ (w : ℕ) where
   module _ (s : State) (h : Fits w s) (m : Lent) (limit : length (m .bytes) ≤ 65536) where
@@ -116,5 +116,5 @@ module _ (w : ℕ) where
   pub idle-unmoved : (s : State) (ms : List Lent) (idle : List Call) → Idle ms idle → Fits w s → Unmoved standIn s ms idle
   idle-unmoved s ms idle i h =
       let all : StillAlike s s ms idle =
-      still-alike s s ms idle i h h (record { place = refl; board = record { setting = refl; registers = refl; debug = refl } }) in
+      still-alike s s ms idle i h h (record { place = refl; board = record { setting = refl; registers = refl; debug = refl; fault = refl } }) in
       record { number = all .number; place = all .ends .place; board = all .ends .board; handed = all .hands }

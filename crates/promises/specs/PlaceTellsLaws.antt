@@ -21,6 +21,7 @@ use Rattle.plan.specs.declared.Plan.{Plan}
 use Rattle.plan.specs.declared.Plan.the-variants.{Hold, Reject, Work}
 use Rattle.plan.specs.Plan.{carriesC, legalWord, noOperands, withOperand, addressIn, valueIn, workAfter, waitsOf, collected, begun, continued, planOf}
 use Rattle.board.specs.State.{State, standingOf}
+use Rattle.step.specs.StepFaultLaws.{step-place}
 use Rattle.step.specs.Step.{left, planFor, stepped}
 use Rattle.promises.specs.TakenWords.{Word, endingFound, ended, stage}
 use Rattle.promises.specs.TakenWords.Stage.{upperDue, closed}
@@ -159,7 +160,8 @@ module _ (w : ℕ) (f : Found) (p : Place) (setting : f .board .w ≡ w) where
   tells-planned (Upper low) (o ∷ os) h = rw (h .0) (h .1)
 
   pub tells-next : (os : List Word) → PlaceTells w p os → PlaceTells w (stepped (foundAt f p) (f .word) .place) (heard f p os)
-  unfolding stepped planFor
+  unfolding planFor
   tells-next os h =
-      subst (λ (n : ℕ). PlaceTells w (left (planOf (p .phase) (standingOf (f .board) p) n (f .word)) (foundAt f p) .place) (heard f p os)) (sym setting)
-      (tells-planned (p .phase) os h)
+      rw (step-place (foundAt f p) (f .word))
+      (subst (λ (n : ℕ). PlaceTells w (left (planOf (p .phase) (standingOf (f .board) p) n (f .word)) (foundAt f p) .place) (heard f p os)) (sym setting)
+      (tells-planned (p .phase) os h))

@@ -22,6 +22,8 @@ use Rattle.board.specs.State.{State, stateOf}
 use Rattle.registers.specs.Registers.{boardAfter, debugLoaded, debugWritten}
 use Rattle.plan.specs.Plan.{long, noOperands, withOperand, workAfter, collected, begun, continued}
 use Rattle.step.specs.Step.{planFor, stepped}
+use Rattle.board.specs.declared.Fault.the-variants.{NoFault}
+use Rattle.step.specs.StepFaultLaws.{step-of-none}
 use Rattle.port.specs.Packet.{packetVerdict}
 use Rattle.port.specs.PacketLaws.{no-other}
 use Rattle.bus.specs.EventExamples.{p5Board}
@@ -41,14 +43,14 @@ unfolding after
 packet-steps b p word calls ranged short = rw (no-other (stateOf b p []) word ranged (omega arith) (omega arith))
 
 -- WDMREG of a register on a halted board within its ranges: its word, then the value, upper half first
-module _ (b : Board) (r : DebugRegister) (word : ℕ) (ranged : boardInRange b ≡ true) (halted : b .status .halted ≡ true) (is : decoded word ≡ wdmreg r)
-    (short : word ≤ 0xFFFF) where
+module _ (b : Board) (r : DebugRegister) (word : ℕ) (ranged : boardInRange b ≡ true) (halted : b .status .halted ≡ true) (none : b .fault ≡ NoFault)
+    (is : decoded word ≡ wdmreg r) (short : word ≤ 0xFFFF) where
   due : ℕ → Operands → Place
   due left taken = placeWith freshPlace (Due (wdmreg r) left taken) Off 0 notReady
 
   command-taken : stepped (standing b) word ≡ stateOf b (due 2 noOperands) []
-  unfolding due freshPlace begun collected planFor stepped
-  command-taken = rw (lt-leb 0x10000 word (omega arith), is, halted)
+  unfolding due freshPlace begun collected planFor
+  command-taken = rw (step-of-none (standing b) word none, lt-leb 0x10000 word (omega arith), is, halted)
 
   upper-taken : (upper : ℕ) → upper ≤ 0xFFFF → stepped (stateOf b (due 2 noOperands) []) upper ≡ stateOf b (due 1 (withOperand noOperands upper)) []
   unfolding due freshPlace continued collected planFor stepped
@@ -56,7 +58,7 @@ module _ (b : Board) (r : DebugRegister) (word : ℕ) (ranged : boardInRange b �
 
   lower-taken : (upper low : ℕ) → low ≤ 0xFFFF
       → stepped (stateOf b (due 1 (withOperand noOperands upper)) []) low ≡ standing (boardAfter (wdmreg r) b 0 (long upper low))
-  unfolding due freshPlace continued collected workAfter planFor stepped
+  unfolding due freshPlace continued collected workAfter planFor stepped debugWritten
   lower-taken upper low h = rw (lt-leb 0x10000 low (omega arith))
 
   fresh-ranged : inRange b freshPlace ≡ true
@@ -83,10 +85,10 @@ module _ (b : Board) (r : DebugRegister) (word : ℕ) (ranged : boardInRange b �
       ∙ ap (λ (x : ℕ). on (standing (boardAfter (wdmreg r) b 0 x)) words) (div-add-mod' v 65536)
 
 -- GO, of such a board
-go-sent : (b : Board) → boardInRange b ≡ true → b .status .halted ≡ true → after standIn (standing b) (sends noMemory (0x0C00 ∷ []))
+go-sent : (b : Board) → boardInRange b ≡ true → b .status .halted ≡ true → b .fault ≡ NoFault → after standIn (standing b) (sends noMemory (0x0C00 ∷ []))
     ≡ standing (boardAfter go b 0 0)
 unfolding freshPlace inRange begun collected workAfter planFor stepped packetVerdict decoded decodedWord after
-go-sent b ranged halted = rw (ranged, halted)
+go-sent b ranged halted none = rw (ranged, halted, none)
 
 -- WDMREG of PBR, ABLR, AATR and TDR, then GO
 abbrev pub p5Words : ℕ → ℕ → List ℕ
@@ -106,8 +108,8 @@ module _ (w pbr ablr : ℕ) (small : w ≤ 15) (narrow-pbr : pbr < 2 ^ 32) (narr
       let from-tdr : List ℕ = 0x2C87 ∷ 0x2004 ∷ 0x2002 ∷ 0x0C00 ∷ [] in
       let from-aatr : List ℕ = 0x2C86 ∷ 0 ∷ 0x0005 ∷ from-tdr in
       let from-ablr : List ℕ = 0x2C8D ∷ ablr / 65536 ∷ ablr % 65536 ∷ from-aatr in
-      wdmreg-sent fresh Pbr 0x2C88 (rw allowed) refl refl (omega arith) pbr from-ablr narrow-pbr
-      ∙ wdmreg-sent with-pbr Ablr 0x2C8D (rw allowed) refl refl (omega arith) ablr from-aatr narrow-ablr
-      ∙ wdmreg-sent with-ablr Aatr 0x2C86 (rw allowed) refl refl (omega arith) 5 from-tdr (omega arith)
-      ∙ wdmreg-sent with-aatr Tdr 0x2C87 (rw allowed) refl refl (omega arith) 0x20042002 (0x0C00 ∷ []) (omega arith)
-      ∙ go-sent with-tdr (rw allowed) refl
+      wdmreg-sent fresh Pbr 0x2C88 (rw allowed) refl refl refl (omega arith) pbr from-ablr narrow-pbr
+      ∙ wdmreg-sent with-pbr Ablr 0x2C8D (rw allowed) refl refl refl (omega arith) ablr from-aatr narrow-ablr
+      ∙ wdmreg-sent with-ablr Aatr 0x2C86 (rw allowed) refl refl refl (omega arith) 5 from-tdr (omega arith)
+      ∙ wdmreg-sent with-aatr Tdr 0x2C87 (rw allowed) refl refl refl (omega arith) 0x20042002 (0x0C00 ∷ []) (omega arith)
+      ∙ go-sent with-tdr (rw allowed) refl refl

@@ -3,8 +3,6 @@ use Prim.Native.Nat.{ℕ, _%_, _^_}
 use mathlib.Core.Bool.{Bool, true, cond, _||_}
 use lib.Dec.{eqb}
 use lib.ListN.{getD}
-use Rattle.memory.specs.declared.Fetch.{Fetch}
-use Rattle.memory.specs.declared.Fetch.the-variants.{Value}
 use Rattle.command.specs.declared.DebugRegister.{DebugRegister}
 use Rattle.command.specs.declared.DebugRegister.the-variants.{Csr, Baar, Aatr, Tdr, Pbr, Pbmr, Abhr, Ablr, Dbr, Dbmr}
 use Rattle.command.specs.declared.Command.{Command}
@@ -20,6 +18,8 @@ use Rattle.board.specs.declared.Debug.{Debug}
 use Rattle.board.specs.Setters.{withStatus, withDebug, withBstat}
 use Rattle.board.specs.RegisterBits.{eblOf}
 use Rattle.csr.specs.Csr.{flag, csrWritten, csrValue, afterCsrRead, afterGo, afterSyncPc}
+use Rattle.control.specs.declared.Shown.{Shown}
+use Rattle.control.specs.declared.Shown.the-variants.{Value}
 use Rattle.control.specs.Control.{controlListed, controlFetched, controlWritten, generalWritten}
 
 -- a register is known by its number
@@ -50,7 +50,7 @@ debugWritten b r v =
     withStatus (withDebug b (debugLoaded (debugNumber r) v (b .debug))) (cond (is (debugNumber r) Tdr) (armed (b .status) v) (b .status))
 
 -- what a command shows: a longword, or nothing where the register is not listed
-abbrev pub shown : Source → Board → ℕ → Fetch
+abbrev pub shown : Source → Board → ℕ → Shown
 shown (source.General n) b address = Value (getD (b .registers .general) (n % 16) 0)
 shown source.Control b address = controlFetched b address
 shown source.Csr b address = Value (csrValue b)

@@ -8,7 +8,7 @@ use Rattle.board.specs.declared.Standing.{Standing}
 use Rattle.board.specs.State.{State, standingOf}
 use Rattle.plan.specs.Plan.{workAfter, waitsOf, continued, planOf}
 use Rattle.plan.specs.PlanLaws.{nop-plan}
-use Rattle.step.specs.Step.{planFor, stepped}
+use Rattle.step.specs.Step.{planFor, wordTaken, stepped}
 use Rattle.sound.specs.Sound.{PhaseWithin}
 use Rattle.rest.specs.ToGoLaws.{uppers, toGo, PlanLeaves, leaves-more, place-leaves, work-after-leaves, continued-leaves}
 
@@ -26,5 +26,5 @@ pub nop-takes-one-off : (w : ℕ) (s : State) → s .board .w ≡ w → PhaseWit
     → toGo w (stepped s 0 .place .phase) ≤ toGo w (s .place .phase) - 1
 unfolding stepped planFor
 nop-takes-one-off w s e h =
-    place-leaves w (toGo w (s .place .phase) - 1) (planOf (s .place .phase) (standingOf (s .board) (s .place)) (s .board .w) 0) s
+    place-leaves w (toGo w (s .place .phase) - 1) (planOf (s .place .phase) (standingOf (s .board) (s .place)) (s .board .w) 0) (wordTaken s 0)
     (rw e (nop-leaves w (s .place .phase) (standingOf (s .board) (s .place)) h))

@@ -9,8 +9,10 @@ use native.Mathlib.Omega.{arith}
 use Rattle.memory.specs.declared.Size.{Size}
 use Rattle.memory.specs.declared.Size.the-variants.{Byte, Word, Long}
 use Rattle.memory.specs.declared.Fetch.{Fetch}
-use Rattle.memory.specs.declared.Fetch.the-variants.{Value, BusError}
-use Rattle.memory.specs.Memory.{present, fetched}
+use Rattle.memory.specs.declared.Fetch.the-variants as fetch
+use Rattle.memory.specs.declared.Reach.{Reach}
+use Rattle.memory.specs.declared.Reach.the-variants.{Whole, Short}
+use Rattle.memory.specs.Memory.{fetched, reach}
 use Rattle.command.specs.declared.Command.{Command}
 use Rattle.command.specs.declared.Command.the-variants.{Unknown, Nop, Load, Store, Show, Change}
 use Rattle.command.specs.declared.Source.{Source}
@@ -22,9 +24,10 @@ use Rattle.board.specs.declared.Operands.{Operands}
 use Rattle.board.specs.declared.Phase.{Phase}
 use Rattle.board.specs.declared.Phase.the-variants.{Rest, Due, Waiting, Upper}
 use Rattle.board.specs.Board.{atRest}
+use Rattle.control.specs.declared.Shown.{Shown}
+use Rattle.control.specs.declared.Shown.the-variants.{Value, BusError}
 use Rattle.registers.specs.Registers.{shown, reached}
-use Rattle.access.specs.declared.Access.the-variants.{Stored, Missing}
-use Rattle.access.specs.Access.{past, fetchedAccess, startOf, accessOf}
+use Rattle.access.specs.Access.{past, fetchedAccess, storedAccess, startOf, accessOf}
 use Rattle.work.specs.Work.{accessEnding, shownEnding, changeEnding, endingOf, phaseAfter}
 use Rattle.plan.specs.declared.Plan.{Plan}
 use Rattle.plan.specs.declared.Plan.the-variants.{Hold, Reject, Release, Work}
@@ -68,16 +71,16 @@ some-to-go w (Upper low) h = omega arith
 
 -- what the work leaves to go: the upper result word, where there are two
 accessed : (w : ℕ) (s : Size) (f : Fetch) (past : ℕ) → toGo w (phaseAfter (accessEnding (fetchedAccess s past f))) ≤ sizeWords s - 1
-accessed w Byte (Value v) past = zero-le
-accessed w Word (Value v) past = zero-le
-accessed w Long (Value v) past = le-refl _
-accessed w s BusError past = zero-le
+accessed w Byte (fetch.Value v) past = zero-le
+accessed w Word (fetch.Value v) past = zero-le
+accessed w Long (fetch.Value v) past = le-refl _
+accessed w s (fetch.Missing first) past = zero-le
 
-stores : (w : ℕ) (t : Bool) (past : ℕ) → toGo w (phaseAfter (accessEnding (cond t (Stored past) Missing))) ≤ 0
-stores w true past = zero-le
-stores w false past = zero-le
+stores : (w : ℕ) (r : Reach) (past : ℕ) → toGo w (phaseAfter (accessEnding (storedAccess past r))) ≤ 0
+stores w Whole past = zero-le
+stores w (Short first) past = zero-le
 
-shows : (w : ℕ) (f : Fetch) → toGo w (phaseAfter (shownEnding f)) ≤ 1
+shows : (w : ℕ) (f : Shown) → toGo w (phaseAfter (shownEnding f)) ≤ 1
 shows w (Value v) = le-refl _
 shows w BusError = zero-le
 
@@ -95,7 +98,7 @@ work-to-go : (w : ℕ) (c : Command) (b : Board) (m : List ℕ) (pointer address
 work-to-go w Unknown b m pointer address = zero-le
 work-to-go w Nop b m pointer address = zero-le
 work-to-go w (Load s base) b m pointer address = accessed w s (fetched m s (startOf base pointer address)) (past s (startOf base pointer address))
-work-to-go w (Store s base) b m pointer address = stores w (present m s (startOf base pointer address)) (past s (startOf base pointer address))
+work-to-go w (Store s base) b m pointer address = stores w (reach m s (startOf base pointer address)) (past s (startOf base pointer address))
 work-to-go w (Show source) b m pointer address = rw (two-shown source) (shows w (shown source b address))
 work-to-go w (Change target) b m pointer address = omega (arith, changes w (reached target address))
 

@@ -15,4 +15,5 @@ pub mod NextRequestLaws
 pub mod IllegalTripLaws
 pub mod WholeRunLaws
 pub mod EveryWLaws
+pub mod EveryFaultLaws
 pub mod MeaningExamples

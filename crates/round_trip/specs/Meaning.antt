@@ -4,13 +4,14 @@ use mathlib.Core.Bool.{cond}
 use mathlib.Core.List.{List}
 use lib.ListN.{getD, set}
 use Rattle.memory.specs.declared.Size.{Size}
-use Rattle.memory.specs.Memory.{aligned, present, valueAt, putAt}
+use Rattle.memory.specs.Memory.{aligned, present, firstMissing, valueAt, putAt}
 use Rattle.command.specs.declared.DebugRegister.the-variants.{Tdr}
 use Rattle.board.specs.declared.Board.{Board}
+use Rattle.board.specs.declared.Fault.the-variants.{NoFault, FaultAt}
 use Rattle.board.specs.declared.Chain.{Chain}
 use Rattle.board.specs.declared.Chain.the-variants.{Off, Dumping, Filling}
 use Rattle.csr.specs.Csr.{csrValue, afterCsrRead, afterGo, afterSyncPc}
-use Rattle.board.specs.Setters.{withStatus, withRegisters, withDebug, withGeneral, withControl}
+use Rattle.board.specs.Setters.{withStatus, withRegisters, withDebug, withFault, withGeneral, withControl}
 use Rattle.control.specs.Control.{controlIndex, controlListed}
 use Rattle.registers.specs.Registers.{is, armed, debugLoaded}
 use Rattle.access.specs.Access.{past}
@@ -30,13 +31,29 @@ pub record Meaning : Type 0 where
   pub outcome : Outcome
   pub leaves : Scene
 
+-- [4] every command word but NOP's clears the number of the address that was not there
+abbrev pub cleared : Board → Board
+cleared b = withFault b NoFault
+
 -- "Any other .. command word .. ends the chain"; the pointer and memory stay
 abbrev pub ends : Outcome → Board → Scene → Meaning
-ends outcome b s = record { outcome = outcome; leaves = record { board = b; chain = Off; pointer = s .pointer; memory = s .memory } }
+ends outcome b s = record { outcome = outcome; leaves = record { board = cleared b; chain = Off; pointer = s .pointer; memory = s .memory } }
 
--- "a bus error and alters nothing", "A bus error doesn't move it", "a bus error .. ends the chain"
+-- "a bus error and alters nothing", "A bus error doesn't move it", "a bus error .. ends the chain"; [4] "A control-register error keeps none"
 abbrev pub fails : Scene → Meaning
 fails s = ends BusError (s .board) s
+
+-- the same of memory; [4] "keep that number": "the lowest address of the access that isn't there"
+abbrev pub misses : Size → ℕ → Scene → Meaning
+misses size address s = record {
+  outcome = BusError;
+  leaves = record {
+    board = withFault (s .board) (FaultAt (firstMissing (s .memory) size address));
+    chain = Off;
+    pointer = s .pointer;
+    memory = s .memory;
+  };
+}
 
 -- READ and DUMP: the bytes in memory at the aligned address; "leave the pointer at aligned address plus size"
 abbrev pub reads : Size → ℕ → Scene → Meaning
@@ -44,9 +61,9 @@ reads size address s =
     cond (present (s .memory) size address)
     (record {
       outcome = Value (valueAt (s .memory) size (aligned size address));
-      leaves = record { board = s .board; chain = Dumping; pointer = past size address; memory = s .memory };
+      leaves = record { board = cleared (s .board); chain = Dumping; pointer = past size address; memory = s .memory };
     })
-    (fails s)
+    (misses size address s)
 
 -- WRITE and FILL: the data put there; "leave the pointer at aligned address plus size"
 abbrev pub writes : Size → ℕ → ℕ → Scene → Meaning
@@ -54,9 +71,10 @@ writes size address value s =
     cond (present (s .memory) size address)
     (record {
       outcome = Complete;
-      leaves = record { board = s .board; chain = Filling; pointer = past size address; memory = putAt (s .memory) size (aligned size address) value };
+      leaves =
+          record { board = cleared (s .board); chain = Filling; pointer = past size address; memory = putAt (s .memory) size (aligned size address) value };
     })
-    (fails s)
+    (misses size address s)
 
 -- "a second not listed, is a bus error"
 abbrev pub readsControl : ℕ → Scene → Meaning

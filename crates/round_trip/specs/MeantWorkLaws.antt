@@ -1,12 +1,12 @@
 -- Laws of the work: what the port's work on a request's words comes to is what the request means, and its ending fits the result asked for.
 use Prim.Native.Nat.{ℕ, _^_, _≤_, _<_}
 use native.Mathlib.Omega.{arith}
-use mathlib.Core.Path.{_≡_, refl, ap}
+use mathlib.Core.Path.{_≡_, refl, ap₂}
 use mathlib.Core.Bool.{Bool, true, false}
 use lib.Bits.{and-le-r}
 use Rattle.memory.specs.declared.Size.{Size}
 use Rattle.memory.specs.declared.Size.the-variants.{Byte, Word, Long}
-use Rattle.memory.specs.Memory.{AllBelow, aligned, present, valueAt, fetched, stored}
+use Rattle.memory.specs.Memory.{AllBelow, aligned, present, valueAt, fetched, stored, reach}
 use Rattle.memory.specs.MemoryLaws.{limit, value-within}
 use Rattle.command.specs.declared.DebugRegister.{DebugRegister}
 use Rattle.command.specs.declared.Command.{Command}
@@ -15,11 +15,14 @@ use Rattle.command.specs.declared.Base.{Base}
 use Rattle.command.specs.Command as command
 use Rattle.command.specs.Command.{lookedUp, debugNumber}
 use Rattle.board.specs.declared.Board.{Board}
+use Rattle.board.specs.declared.Fault.the-variants.{NoFault}
+use Rattle.board.specs.Setters.{withFault}
 use Rattle.board.specs.declared.Chain.{Chain}
 use Rattle.access.specs.declared.Access.the-variants.{Fetched}
 use Rattle.work.specs.declared.Ending.{Ending}
 use Rattle.access.specs.Access.{past, startOf, accessOf, memoryAfter, pointerAfter}
 use Rattle.work.specs.Work.{accessEnding, endingOf, chainBy, chainAfter}
+use Rattle.faults.specs.Fault.{faultAfter}
 use Rattle.board.specs.State.{State}
 use Rattle.sound.specs.Sound.{Sound}
 use Rattle.csr.specs.Csr.{flag, csrValue}
@@ -31,7 +34,7 @@ use Rattle.requests.specs.declared.ResultKind.the-variants.{NoResult, OfSize}
 use Rattle.readings.specs.declared.Outcome.the-variants.{Value}
 use Rattle.pod_laws.specs.MeantCommand.{debugRows}
 use Rattle.pod_laws.specs.RequestCountLaws.{found-debug}
-use Rattle.round_trip.specs.Meaning.{Scene, Meaning, meaning, reads, writes, readsControl, writesControl}
+use Rattle.round_trip.specs.Meaning.{Scene, Meaning, cleared, meaning, reads, writes, readsControl, writesControl}
 use Rattle.round_trip.specs.RoundTrip.{sceneOf}
 use Rattle.round_trip.specs.ClosesLaws.{outcomeOf, Fits}
 use Rattle.laws.specs.TestLaws.{by-test}
@@ -43,11 +46,16 @@ workEnding c address s = endingOf c (s .board) address (accessOf c (s .memory) (
 abbrev pub workScene : Command → ℕ → ℕ → Scene → Scene
 workScene c address value s =
     record {
-      board = boardAfter c (s .board) address value;
+      board = withFault (boardAfter c (s .board) address value)
+          (faultAfter (workEnding c address s) (accessOf c (s .memory) (s .pointer) address) (s .board .fault));
       chain = chainAfter (workEnding c address s) c (s .chain);
       pointer = pointerAfter (accessOf c (s .memory) (s .pointer) address) (s .pointer);
       memory = memoryAfter c (s .memory) (s .pointer) address value;
     }
+
+-- [4] a scene as a command word other than NOP leaves it
+abbrev pub wordCleared : Scene → Scene
+wordCleared s = record { board = cleared (s .board); chain = s .chain; pointer = s .pointer; memory = s .memory }
 
 -- what a result must be taken from to fit: bytes, and registers of 32 bits
 pub record Sized (s : Scene) : Type 0 where
@@ -77,13 +85,18 @@ fetched-chain Byte v p c chain = refl
 fetched-chain Word v p c chain = refl
 fetched-chain Long v p c chain = refl
 
+fetched-fault : (size : Size) (v p : ℕ) → faultAfter (accessEnding (Fetched size v p)) (Fetched size v p) NoFault ≡ NoFault
+fetched-fault Byte v p = refl
+fetched-fault Word v p = refl
+fetched-fault Long v p = refl
+
 fetched-fits : (size : Size) (v p : ℕ) → v < limit size → Fits (OfSize size) (accessEnding (Fetched size v p))
 fetched-fits Byte v p h = omega arith
 fetched-fits Word v p h = omega arith
 fetched-fits Long v p h = omega arith
 
 module _ (size : Size) (s : Scene) where
-  pub load-meant : (base : Base) (a v : ℕ) → Meant (Load size base) a v (OfSize size) s (reads size (startOf base (s .pointer) a) s)
+  pub load-meant : (base : Base) (a v : ℕ) → Meant (Load size base) a v (OfSize size) (wordCleared s) (reads size (startOf base (s .pointer) a) s)
   unfolding fetched
   load-meant base a v =
       let at = startOf base (s .pointer) a in
@@ -94,14 +107,14 @@ module _ (size : Size) (s : Scene) where
         outcome = rw h (fetched-outcome size x (past size at));
         leaves =
             rw h
-            (ap (λ chain. record { board = s .board; chain = chain; pointer = past size at; memory = s .memory })
-            (fetched-chain size x (past size at) (Load size base) (s .chain)));
+            (ap₂ (λ fault chain. record { board = withFault (s .board) fault; chain = chain; pointer = past size at; memory = s .memory })
+            (fetched-fault size x (past size at)) (fetched-chain size x (past size at) (Load size base) (s .chain)));
         fits = λ f. rw h (fetched-fits size x (past size at) (value-within (s .memory) size (aligned size at) (f .bytes)));
       })
       (λ h. record { outcome = rw h; leaves = rw h; fits = λ f. rw h tt })
 
-  pub store-meant : (base : Base) (a v : ℕ) → Meant (Store size base) a v NoResult s (writes size (startOf base (s .pointer) a) v s)
-  unfolding stored
+  pub store-meant : (base : Base) (a v : ℕ) → Meant (Store size base) a v NoResult (wordCleared s) (writes size (startOf base (s .pointer) a) v s)
+  unfolding stored reach
   store-meant base a v =
       by-test (present (s .memory) size (startOf base (s .pointer) a))
       (λ h. record { outcome = rw h; leaves = rw h; fits = λ f. rw h tt })
@@ -109,14 +122,14 @@ module _ (size : Size) (s : Scene) where
 
 -- ---- control registers
 module _ (s : Scene) where
-  pub read-control-meant : (rc v : ℕ) → Meant command.rcreg rc v (OfSize Long) s (readsControl rc s)
+  pub read-control-meant : (rc v : ℕ) → Meant command.rcreg rc v (OfSize Long) (wordCleared s) (readsControl rc s)
   unfolding controlFetched
   read-control-meant rc v =
       by-test (controlListed rc)
       (λ h. record { outcome = rw h; leaves = rw h; fits = λ f. rw h (omega (arith, f .control (controlIndex rc))) })
       (λ h. record { outcome = rw h; leaves = rw h; fits = λ f. rw h tt })
 
-  pub write-control-meant : (rc v : ℕ) → Meant command.wcreg rc v NoResult s (writesControl rc v s)
+  pub write-control-meant : (rc v : ℕ) → Meant command.wcreg rc v NoResult (wordCleared s) (writesControl rc v s)
   unfolding controlFetched controlWritten
   write-control-meant rc v =
       by-test (controlListed rc)
@@ -135,10 +148,10 @@ csr-fits b =
     omega (arith, flag-within (t .fof), flag-within (t .trg), flag-within (t .halt), flag-within (t .bkpt), and-le-r (b .debug .csr) 0x0007FF70)
 
 pub debug-meant : (n v a : ℕ) (s : Scene) → (lookedUp n debugRows ≡ Unknown → ⊥)
-    → Meant (lookedUp n debugRows) a v NoResult s (meaning (Wdmreg n v) s)
+    → Meant (lookedUp n debugRows) a v NoResult (wordCleared s) (meaning (Wdmreg n v) s)
 unfolding debugWritten
 debug-meant n v a s known =
-    found-debug (λ k c. Meant c a v NoResult s (meaning (Wdmreg k v) s)) n written known
+    found-debug (λ k c. Meant c a v NoResult (wordCleared s) (meaning (Wdmreg k v) s)) n written known
   where
-    written : (r : DebugRegister) → Meant (command.wdmreg r) a v NoResult s (meaning (Wdmreg (debugNumber r) v) s)
+    written : (r : DebugRegister) → Meant (command.wdmreg r) a v NoResult (wordCleared s) (meaning (Wdmreg (debugNumber r) v) s)
     written r = record { outcome = refl; leaves = refl; fits = λ f. tt }

@@ -1,15 +1,16 @@
 -- Laws of a packet's step: a command under way goes on as if nothing had been held, and a NOP at rest leaves all but the reply.
 use Prim.Native.Nat.{ℕ, zero, suc, _-_, _≤_}
 use native.Mathlib.Omega.{arith}
-use mathlib.Core.Path.{_≡_, refl}
-use mathlib.Core.Bool.{true, false}
-use borrow.Author.Tests.{lt-leb, ne-eqb}
+use mathlib.Core.Path.{_≡_, refl, sym, _∙_}
+use mathlib.Core.Bool.{Bool, true, false, _&&_, _||_}
+use borrow.Author.Tests.{lt-leb, ne-eqb, eqb-true}
 use Rattle.command.specs.declared.Command.{Command}
 use Rattle.command.specs.declared.Command.the-variants.{Unknown, Nop, Load, Store, Show, Change}
 use Rattle.command.specs.declared.Base.the-variants.{Address, Pointer}
-use Rattle.command.specs.Command.{decoded, operandWords}
+use Rattle.command.specs.Command.{decodedWord, decoded, operandWords}
 use Rattle.command.specs.Reply.{complete, notReady, illegal}
 use Rattle.board.specs.declared.Operands.{Operands}
+use Rattle.board.specs.declared.Standing.{Standing}
 use Rattle.board.specs.declared.Chain.{Chain}
 use Rattle.board.specs.declared.Phase.{Phase}
 use Rattle.board.specs.declared.Phase.the-variants.{Due, Waiting}
@@ -19,8 +20,11 @@ use Rattle.access.specs.Access.{accessOf}
 use Rattle.work.specs.Work.{endingOf, chainBy, chainAfter}
 use Rattle.plan.specs.declared.Plan.the-variants.{Hold, Work}
 use Rattle.plan.specs.Plan.{withOperand, noOperands, addressIn, valueIn, waitsOf, workAfter, collected, begun, continued, legalWord}
+use Rattle.plan.specs.Plan.Input.{commandWord}
 use Rattle.plan.specs.PlanLaws.{nop-plan}
-use Rattle.board.specs.Setters.{placeWith}
+use Rattle.faults.specs.Fault.{isNop, faultTaken}
+use Rattle.laws.specs.TestLaws.{by-test}
+use Rattle.board.specs.Setters.{withFault, placeWith}
 use Rattle.board.specs.State.{State, stateOf}
 use Rattle.step.specs.Step.{chainDuring, left, planFor, stepped}
 use Rattle.round_trip.specs.Meaning.{Scene}
@@ -101,16 +105,34 @@ unfolding stepped planFor
 wait-taken k c address value s word =
     let one-less : suc k - 1 ≡ k = omega arith in rw one-less (ready-under c (Waiting c (suc k) address value) s k address value)
 
+-- [4] a scene as a command word leaves it
+abbrev pub sceneTaken : ℕ → Scene → Scene
+sceneTaken word s = record {
+  board = withFault (s .board) (faultTaken commandWord word (s .board .fault));
+  chain = s .chain;
+  pointer = s .pointer;
+  memory = s .memory;
+}
+
 -- "Every packet accepted at rest is a command word taken"
 pub command-taken : (c : Command) (word next : ℕ) (s : Scene) → decoded word ≡ c → legalWord word (standingIn s) ≡ true
-    → stepped (resting s next) word ≡ left (collected (s .board .w) (operandWords c) c noOperands) (resting s next)
+    → stepped (resting s next) word ≡ left (collected (s .board .w) (operandWords c) c noOperands) (resting (sceneTaken word s) next)
 unfolding stepped planFor begun
 command-taken c word next s d l = rw (l, d)
+
+-- a NOP is legal
+illegal-is-no-nop : (word : ℕ) (s : Standing) → legalWord word s ≡ false → isNop word ≡ false
+unfolding decoded decodedWord
+illegal-is-no-nop word s l = by-test (isNop word) (λ e. e ∙ sym (legal (s .halted)) ∙ (rw (eqb-true word 0 e) at l)) (λ e. e)
+  where
+    legal : (halted : Bool) → ((halted || true) && true) ≡ true
+    legal true = refl
+    legal false = refl
 
 -- ".. is illegal: the next reply is 0x1FFFF and the port is at rest"
 pub illegal-taken : (word next : ℕ) (s : Scene) → legalWord word (standingIn s) ≡ false → stepped (resting s next) word ≡ resting (unchained s) illegal
 unfolding stepped planFor begun
-illegal-taken word next s l = rw l
+illegal-taken word next s l = rw (l, illegal-is-no-nop word (standingIn s) l)
 
 -- a NOP at rest: all stays, and the next reply is "complete"
 pub nop-at-rest : (s : Scene) (next : ℕ) → stepped (resting s next) 0 ≡ resting s complete

@@ -24,7 +24,7 @@ use Rattle.requests.specs.Request.{kindOf, kindWords}
 use Rattle.building.specs.RequestWords.{commandWord, operands, builtWords}
 use Rattle.readings.specs.Reading.{reading}
 use Rattle.pod_laws.specs.MeantCommand.{commandOf}
-use Rattle.round_trip.specs.Meaning.{Scene, meaning}
+use Rattle.round_trip.specs.Meaning.{Scene, cleared, meaning}
 
 -- a NOP is the word 0
 abbrev pub nops : ℕ → List ℕ
@@ -57,9 +57,9 @@ legalLeaves request s = resting (meaning request s .leaves) complete
 abbrev pub secondWord : Request → ℕ
 secondWord request = getD (operands request) 0 0
 
--- "illegal command word .. ends the chain"
+-- "illegal command word .. ends the chain", and is no NOP
 abbrev pub unchained : Scene → Scene
-unchained s = record { board = s .board; chain = Off; pointer = s .pointer; memory = s .memory }
+unchained s = record { board = cleared (s .board); chain = Off; pointer = s .pointer; memory = s .memory }
 
 -- illegal: "the next reply is 0x1FFFF and the port is at rest"
 abbrev pub afterIllegal : Scene → State

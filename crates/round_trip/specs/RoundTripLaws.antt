@@ -24,28 +24,32 @@ use Rattle.pod_laws.specs.RequestCountLaws.{operand-count}
 use Rattle.pod_laws.specs.NotYetLaws.{not-yet-until}
 use Rattle.round_trip.specs.Meaning.{Scene, meaning}
 use Rattle.round_trip.specs.RoundTrip.{nops, resting, legalThere, legalLeaves, secondWord, illegalLeaves, closingReplies, nopsThere, wordsThere, Trip}
-use Rattle.round_trip.specs.PacketTakenLaws.{due-none, command-taken, illegal-taken}
+use Rattle.round_trip.specs.PacketTakenLaws.{due-none, sceneTaken, command-taken, illegal-taken}
 use Rattle.round_trip.specs.ClosesLaws.{Closes, ending-closes, taken, waits-close, operands-taken}
 use Rattle.round_trip.specs.MeantWorkLaws.{Sized, workEnding, workScene}
 use Rattle.round_trip.specs.MeaningLaws.{legal-is-known, addressSent, valueSent, work-is-meant}
 
 -- ---- legal
 module _ (request : Request) (s : Scene) (next : ℕ) (h : inRange request ≡ true) (l : legalThere request s ≡ true) (z : Sized s) where
+  -- once its command word is taken
+  abbrev begun : Scene
+  begun = sceneTaken (commandWord request) s
+
   -- the closing replies, once the work is done
   told-as-meant : Closes (kindOf request) (nops (closingReplies (kindOf request) (meaning request s .outcome))) First
-      (left (Work (commandOf request) (addressSent request) (valueSent request)) (resting s next))
+      (left (Work (commandOf request) (addressSent request) (valueSent request)) (resting begun next))
       (meaning request s .outcome)
       (legalLeaves request s)
   told-as-meant =
       let c = commandOf request in
       let k = kindOf request in
       let m = work-is-meant request s h (legal-is-known request s h l) in
-      let after = left (Work c (addressSent request) (valueSent request)) (resting s next) in
-      let there = workScene c (addressSent request) (valueSent request) s in
+      let after = left (Work c (addressSent request) (valueSent request)) (resting begun next) in
+      let there = workScene c (addressSent request) (valueSent request) begun in
       let o = meaning request s .outcome in
       subst (λ (x : Scene). Closes k (nops (closingReplies k o)) First after o (resting x complete)) (m .leaves)
       (subst (λ (x : Outcome). Closes k (nops (closingReplies k x)) First after x (resting there complete)) (m .outcome)
-      (ending-closes k (workEnding c (addressSent request) s) there (m .fits z)))
+      (ending-closes k (workEnding c (addressSent request) begun) there (m .fits (record { bytes = z .bytes; general = z .general; control = z .control }))))
 
   -- the words after the command word
   pub legal-closes : Closes (kindOf request) (operands request ++ nops (nopsThere request s)) First (stepped (resting s next) (commandWord request))
@@ -58,9 +62,9 @@ module _ (request : Request) (s : Scene) (next : ℕ) (h : inRange request ≡ t
       let o = meaning request s .outcome in
       let final = legalLeaves request s in
       rw (command-taken c (commandWord request) next s (decoded-as-meant request h) l, ← operand-count request (legal-is-known request s h l))
-      (operands-taken k c (resting s next) o final (operands request) (nops (nopsThere request s)) noOperands (operands-clear request h)
+      (operands-taken k c (resting begun next) o final (operands request) (nops (nopsThere request s)) noOperands (operands-clear request h)
       (rw (due-none w c (taken noOperands (operands request)))
-      (waits-close k c (resting s next) o final (waitsOf w c) (closingReplies k o) (addressSent request) (valueSent request) told-as-meant)))
+      (waits-close k c (resting begun next) o final (waitsOf w c) (closingReplies k o) (addressSent request) (valueSent request) told-as-meant)))
 
 -- ---- illegal
 pub illegal-closes : (request : Request) (s : Scene) (next : ℕ) → legalThere request s ≡ false

@@ -3,7 +3,7 @@
 use Prim.Native.Nat.{ℕ}
 use mathlib.Core.Path.{_≡_, refl}
 use mathlib.Core.List.{List, [], _∷_}
-use Rattle.memory.specs.Memory.{fetched, stored}
+use Rattle.memory.specs.Memory.{fetched, stored, reach}
 use Rattle.command.specs.Command.{decoded, decodedWord}
 use Rattle.board.specs.Board.{freshBoard, freshPlace}
 use Rattle.board.specs.State.{State, stateOf}
@@ -63,11 +63,11 @@ abbrev pub p8Replies : List ℕ
 p8Replies = 0x0FFFF ∷ 0x1FFFF ∷ []
 
 pub p1 : replies p1Words (fresh 1 sixteen) ≡ p1Replies
-unfolding replies stepped freshBoard freshPlace replyNow planFor begun continued collected workAfter decoded decodedWord fetched stored
+unfolding replies stepped freshBoard freshPlace replyNow planFor begun continued collected workAfter decoded decodedWord fetched stored reach
 p1 = refl
 
 pub p2 : replies p2Words (ran p1Words (fresh 1 sixteen)) ≡ p2Replies
-unfolding ran replies stepped freshBoard freshPlace replyNow planFor begun continued collected workAfter decoded decodedWord fetched stored
+unfolding ran replies stepped freshBoard freshPlace replyNow planFor begun continued collected workAfter decoded decodedWord fetched stored reach
 p2 = refl
 
 -- at any W and over any memory
@@ -91,5 +91,5 @@ p8 w m = refl
 -- a WRITE, then two FILLs with a NOP between, as memory holds them
 pub fills-store : ran (0x1840 ∷ 0 ∷ 2 ∷ 0xAABB ∷ 0x1C00 ∷ 0x12 ∷ 0 ∷ 0x1C00 ∷ 0x34 ∷ []) (fresh 0 (0 ∷ 0 ∷ 0 ∷ 0 ∷ 0 ∷ 0 ∷ 0 ∷ [])) .memory
     ≡ 0 ∷ 0 ∷ 0xAA ∷ 0xBB ∷ 0x12 ∷ 0x34 ∷ 0 ∷ []
-unfolding ran stepped freshBoard freshPlace replyNow planFor begun continued collected workAfter decoded decodedWord fetched stored
+unfolding ran stepped freshBoard freshPlace replyNow planFor begun continued collected workAfter decoded decodedWord fetched stored reach
 fills-store = refl

@@ -21,7 +21,7 @@ use Rattle.work.specs.Work.{endingOf, firstReply, phaseAfter}
 use Rattle.plan.specs.declared.Plan.{Plan}
 use Rattle.plan.specs.declared.Plan.the-variants.{Hold, Reject, Release, Work}
 use Rattle.command.specs.Reply.{notReady}
-use Rattle.step.specs.Step.{replyIn, replyNow, left, planFor, stepped}
+use Rattle.step.specs.Step.{replyIn, replyNow, left, planFor, wordTaken, stepped}
 use Rattle.run.specs.Run.{ran, replies, allWithin, runVerdict}
 use Rattle.run.specs.RunMirror.{written}
 use Rattle.grounds.specs.declared.Ground.the-variants.{WordTooLarge, MemoryTooLong, BufferTooShort, StateOutOfRange}
@@ -32,7 +32,7 @@ use borrow.Author.Tests.{leb-true}
 
 -- the step, from the plan
 pub stepped-as : (b : Board) (p : Place) (m : List ℕ) (word : ℕ) {plan : Plan} {next : State}
-    → plan ≡ planFor b p word → next ≡ left plan (stateOf b p m) → next ≡ stepped (stateOf b p m) word
+    → plan ≡ planFor b p word → next ≡ left plan (wordTaken (stateOf b p m) word) → next ≡ stepped (stateOf b p m) word
 unfolding stepped
 stepped-as b p m word e f = rw e at f
 
@@ -49,7 +49,7 @@ written-on words i s out h = rw (drop-cons words i 0 h, ← add-one i)
 -- after any packet the reply to the next is the one held
 pub reply-held : (s : State) (word : ℕ) {next : State} → next ≡ stepped s word → next .place .next ≡ replyNow (next .place)
 unfolding stepped replyNow
-reply-held s word step = rw step (by-plan (planFor (s .board) (s .place) word))
+reply-held s word step = rw step (by-plan (planFor (s .board) (s .place) word) (wordTaken s word))
   where
     by-phase : (phase : Phase) → notReady ≡ replyIn phase notReady
     by-phase Rest = refl
@@ -63,11 +63,11 @@ reply-held s word step = rw step (by-plan (planFor (s .board) (s .place) word))
     by-ending (OneWord value) = refl
     by-ending (TwoWords value) = refl
 
-    by-plan : (plan : Plan) → left plan s .place .next ≡ replyIn (left plan s .place .phase) (left plan s .place .next)
-    by-plan (Hold phase) = by-phase phase
-    by-plan Reject = refl
-    by-plan (Release low) = refl
-    by-plan (Work c address value) = by-ending (endingOf c (s .board) address (accessOf c (s .memory) (s .place .pointer) address))
+    by-plan : (plan : Plan) (s : State) → left plan s .place .next ≡ replyIn (left plan s .place .phase) (left plan s .place .next)
+    by-plan (Hold phase) s = by-phase phase
+    by-plan Reject s = refl
+    by-plan (Release low) s = refl
+    by-plan (Work c address value) s = by-ending (endingOf c (s .board) address (accessOf c (s .memory) (s .place .pointer) address))
 
 pub goes-on : (words : List ℕ) (i : ℕ) (s : State) {next : State} (out : List ℕ) {reply : ℕ} → i < length words → reply ≡ replyNow (s .place)
     → next ≡ stepped s (getD words i 0)

@@ -8,6 +8,7 @@ ghost use Rattle.board.specs.State.{stateOf};
 ghost use Rattle.run.specs.Run.{ran, allWithin, runVerdict, RunMeets};
 ghost use Rattle.run.specs.RunMirror.{written, idled, hasShortWay, shortWay};
 use board::Board;
+use board::Fault;
 use board::Phase;
 use board::Place;
 use grounds::Ground;
@@ -127,13 +128,23 @@ fn take_words(
             reply = p.next;
             continue;
         }
+        let phase = p.phase;
+        let held = b.fault;
+        let fault = faults::after_word(phase, word, held);
         let plan = step::plan_for(b, p, word);
         let Plan::Work(_, _, _) = plan else {
+            // Where none is held none is cleared: the board is large, and not copied.
+            match held {
+                Fault::NoFault => {}
+                Fault::FaultAt(_) => {
+                    b = board::set_fault(b, fault);
+                }
+            }
             p = step::settle_without_work(p, plan);
             reply = p.next;
             continue;
         };
-        let next = step::carry_out(b, p, memory, plan);
+        let next = step::carry_out(b, fault, p, memory, plan);
         b = next.board;
         p = next.place;
         reply = p.next;

@@ -19,6 +19,7 @@ use Rattle.command.specs.Reply.{complete}
 use Rattle.board.specs.declared.Board.{Board}
 use Rattle.board.specs.declared.Status.{Status}
 use Rattle.board.specs.declared.Debug.{Debug}
+use Rattle.board.specs.declared.Fault.{Fault}
 use Rattle.board.specs.declared.Phase.{Phase}
 use Rattle.board.specs.declared.Phase.the-variants.{Rest, Due, Waiting, Upper}
 use Rattle.board.specs.declared.Place.{Place}
@@ -32,9 +33,9 @@ use Rattle.registers.specs.ChangeLaws.{each-change}
 use Rattle.access.specs.AccessLaws.{no-other-changes-memory}
 use Rattle.plan.specs.declared.Plan.{Plan}
 use Rattle.plan.specs.declared.Plan.the-variants.{Hold, Reject, Release, Work}
-use Rattle.board.specs.Setters.{withStatus, withRegisters, withControl}
+use Rattle.board.specs.Setters.{withStatus, withRegisters, withControl, withFault}
 use Rattle.board.specs.State.{State, standingOf}
-use Rattle.step.specs.Step.{replyIn, replyNow, left, planFor, stepped}
+use Rattle.step.specs.Step.{replyIn, replyNow, left, planFor, wordTaken, stepped}
 use Rattle.sound.specs.SoundPlanLaws.{PlanWithin, plan-within}
 use Rattle.sound.specs.SoundWorkLaws.{work-keeps-memory, work-keeps-place, listedReply, work-reply-listed}
 use Rattle.sound.specs.Sound.{DebugWithin, SoundBoard, PhaseWithin, SoundPlace, SoundMemory, Sound}
@@ -125,6 +126,10 @@ module _ (w : ℕ) (b : Board) (h : SoundBoard w b) where
       })
       c
 
+-- [4] the number that is kept has no range of its own
+pub fault-keeps : {w : ℕ} {b : Board} (f : Fault) → SoundBoard w b → SoundBoard w (withFault b f)
+fault-keeps f h = record { setting = h .setting; small = h .small; bstat = h .bstat; general = h .general; control = h .control; debug = h .debug }
+
 -- ---- the packet
 reply-in-listed : (phase : Phase) (next : ℕ) → listedReply next ≡ true → listedReply (replyIn phase next) ≡ true
 reply-in-listed Rest next h = h
@@ -143,7 +148,7 @@ module _ (w : ℕ) (s : State) (h : SoundBoard w (s .board)) (k : SoundPlace w (
   plan-keeps-board (Hold phase) f = h
   plan-keeps-board Reject f = h
   plan-keeps-board (Release low) f = h
-  plan-keeps-board (Work c a v) f = work-keeps-board w (s .board) h c a v (f .1)
+  plan-keeps-board (Work c a v) f = fault-keeps _ (work-keeps-board w (s .board) h c a v (f .1))
 
   plan-keeps-memory : (plan : Plan) → SoundMemory (left plan s .memory)
   plan-keeps-memory (Hold phase) = l
@@ -151,34 +156,38 @@ module _ (w : ℕ) (s : State) (h : SoundBoard w (s .board)) (k : SoundPlace w (
   plan-keeps-memory (Release low) = l
   plan-keeps-memory (Work c a v) = work-keeps-memory c (s .memory) (s .place .pointer) a v l
 
-  within : (word : ℕ) → PlanWithin w (planFor (s .board) (s .place) word)
-  unfolding planFor
-  within word = rw (h .setting) (plan-within (s .place .phase) (standingOf (s .board) (s .place)) w word (k .phase))
-
-  pub packet-keeps-place : (word : ℕ) → SoundPlace w (stepped s word .place)
-  unfolding stepped
-  packet-keeps-place word = plan-keeps-place (planFor (s .board) (s .place) word) (within word)
-
-  pub packet-keeps-board : (word : ℕ) → SoundBoard w (stepped s word .board)
-  unfolding stepped
-  packet-keeps-board word = plan-keeps-board (planFor (s .board) (s .place) word) (within word)
-
-  pub packet-keeps-memory : (word : ℕ) → SoundMemory (stepped s word .memory)
-  unfolding stepped
-  packet-keeps-memory word = plan-keeps-memory (planFor (s .board) (s .place) word)
-
   plan-reply-listed : (plan : Plan) → PlanWithin w plan → listedReply (left plan s .place .next) ≡ true
   plan-reply-listed (Hold phase) f = refl
   plan-reply-listed Reject f = refl
   plan-reply-listed (Release low) f = rw (le-leb low complete (omega arith))
   plan-reply-listed (Work c a v) f = work-reply-listed w c (s .board) (s .place) (s .memory) a h l
 
+module _ (w : ℕ) (s : State) (h : SoundBoard w (s .board)) (k : SoundPlace w (s .place)) (l : SoundMemory (s .memory)) (word : ℕ) where
+  within : PlanWithin w (planFor (s .board) (s .place) word)
+  unfolding planFor
+  within = rw (h .setting) (plan-within (s .place .phase) (standingOf (s .board) (s .place)) w word (k .phase))
+
+  taken : SoundBoard w (wordTaken s word .board)
+  taken = fault-keeps _ h
+
+  pub packet-keeps-place : SoundPlace w (stepped s word .place)
+  unfolding stepped
+  packet-keeps-place = plan-keeps-place w (wordTaken s word) taken k l (planFor (s .board) (s .place) word) within
+
+  pub packet-keeps-board : SoundBoard w (stepped s word .board)
+  unfolding stepped
+  packet-keeps-board = plan-keeps-board w (wordTaken s word) taken k l (planFor (s .board) (s .place) word) within
+
+  pub packet-keeps-memory : SoundMemory (stepped s word .memory)
+  unfolding stepped
+  packet-keeps-memory = plan-keeps-memory w (wordTaken s word) taken k l (planFor (s .board) (s .place) word)
+
   -- whatever was held before, the reply that a packet leaves is one of the list
-  pub packet-leaves-listed-reply : (word : ℕ) → listedReply (replyNow (stepped s word .place)) ≡ true
+  pub packet-leaves-listed-reply : listedReply (replyNow (stepped s word .place)) ≡ true
   unfolding stepped replyNow
-  packet-leaves-listed-reply word =
-      let after = left (planFor (s .board) (s .place) word) s .place in
-      reply-in-listed (after .phase) (after .next) (plan-reply-listed (planFor (s .board) (s .place) word) (within word))
+  packet-leaves-listed-reply =
+      let after = left (planFor (s .board) (s .place) word) (wordTaken s word) .place in
+      reply-in-listed (after .phase) (after .next) (plan-reply-listed w (wordTaken s word) taken k l (planFor (s .board) (s .place) word) within)
 
 -- ---- W, whatever is held
 control-keeps-w : (b : Board) (n v : ℕ) → controlWritten b n v .w ≡ b .w
@@ -197,11 +206,11 @@ pub packet-keeps-w : (s : State) (word : ℕ) → stepped s word .board .w ≡ s
 unfolding stepped
 packet-keeps-w s word = by-plan (planFor (s .board) (s .place) word)
   where
-    by-plan : (plan : Plan) → left plan s .board .w ≡ s .board .w
+    by-plan : (plan : Plan) → left plan (wordTaken s word) .board .w ≡ s .board .w
     by-plan (Hold phase) = refl
     by-plan Reject = refl
     by-plan (Release low) = refl
-    by-plan (Work c a v) = work-keeps-w c (s .board) a v
+    by-plan (Work c a v) = work-keeps-w c (wordTaken s word .board) a v
 
 -- ---- "memory changes only by WRITE and FILL"
 pub no-other-packet-changes-memory : (s : State) (word : ℕ)
@@ -211,7 +220,7 @@ pub no-other-packet-changes-memory : (s : State) (word : ℕ)
 unfolding stepped
 no-other-packet-changes-memory s word f g = by-plan (planFor (s .board) (s .place) word) refl
   where
-    by-plan : (plan : Plan) → planFor (s .board) (s .place) word ≡ plan → left plan s .memory ≡ s .memory
+    by-plan : (plan : Plan) → planFor (s .board) (s .place) word ≡ plan → left plan (wordTaken s word) .memory ≡ s .memory
     by-plan (Hold phase) e = refl
     by-plan Reject e = refl
     by-plan (Release low) e = refl

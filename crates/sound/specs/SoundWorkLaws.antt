@@ -11,8 +11,9 @@ use borrow.Author.Tests.{leb-true, le-leb}
 use Rattle.laws.specs.TestLaws.{either}
 use Rattle.memory.specs.declared.Size.{Size}
 use Rattle.memory.specs.declared.Size.the-variants.{Byte, Word, Long}
-use Rattle.memory.specs.declared.Fetch.the-variants.{Value, BusError}
-use Rattle.memory.specs.Memory.{bytes, aligned, present, valueAt, fetched, stored}
+use Rattle.memory.specs.declared.Fetch.the-variants as fetch
+use Rattle.memory.specs.declared.Reach.the-variants.{Whole, Short}
+use Rattle.memory.specs.Memory.{bytes, aligned, present, firstMissing, valueAt, fetched, stored, reach}
 use Rattle.memory.specs.MemoryLaws.{store-keeps-bytes, store-keeps-length, value-within, limit}
 use Rattle.command.specs.declared.Command.{Command}
 use Rattle.command.specs.declared.Command.the-variants.{Unknown, Nop, Load, Store, Show, Change}
@@ -22,13 +23,14 @@ use Rattle.command.specs.Reply.{complete, notReady, busError, illegal}
 use Rattle.board.specs.declared.Board.{Board}
 use Rattle.board.specs.declared.Place.{Place}
 use Rattle.csr.specs.Csr.{flag, csrValue}
+use Rattle.control.specs.declared.Shown.the-variants.{Value, BusError}
 use Rattle.control.specs.Control.{controlIndex, controlListed, controlFetched}
 use Rattle.registers.specs.Registers.{shown, reached}
 use Rattle.access.specs.declared.Access.{Access}
 use Rattle.access.specs.declared.Access.the-variants.{NoAccess, Fetched, Stored, Missing}
 use Rattle.work.specs.declared.Ending.{Ending}
 use Rattle.work.specs.declared.Ending.the-variants.{Complete, Failed, OneWord, TwoWords}
-use Rattle.access.specs.Access.{past, fetchedAccess, fetching, storing, startOf, accessOf, memoryAfter, pointerAfter}
+use Rattle.access.specs.Access.{past, fetchedAccess, storedAccess, fetching, storing, startOf, accessOf, memoryAfter, pointerAfter}
 use Rattle.work.specs.Work.{accessEnding, shownEnding, changeEnding, endingOf, firstReply, phaseAfter, placeAfter}
 use Rattle.sound.specs.Sound.{SoundBoard, PhaseWithin, SoundPlace, SoundMemory}
 
@@ -37,7 +39,7 @@ abbrev AccessWithin : Access → Type 0
 AccessWithin NoAccess = Unit {0}
 AccessWithin (Fetched s v past) = (v < limit s) × (past ≤ 65536)
 AccessWithin (Stored past) = past ≤ 65536
-AccessWithin Missing = Unit {0}
+AccessWithin (Missing first) = Unit {0}
 
 past-within : (m : List ℕ) (s : Size) (a : ℕ) → length m ≤ 65536 → present m s a ≡ true → past s a ≤ 65536
 past-within m Byte a h e = let fits : a - a % 1 + 1 ≤ length m = leb-true _ _ e in omega arith
@@ -47,11 +49,13 @@ past-within m Long a h e = let fits : a - a % 4 + 4 ≤ length m = leb-true _ _ 
 fetching-within : (m : List ℕ) (s : Size) (a : ℕ) → SoundMemory m → AccessWithin (fetching m s a)
 unfolding fetched
 fetching-within m s a h =
-    either (λ f. AccessWithin (fetchedAccess s (past s a) f)) (present m s a) (Value (valueAt m s (aligned s a))) BusError
+    either (λ f. AccessWithin (fetchedAccess s (past s a) f)) (present m s a) (fetch.Value (valueAt m s (aligned s a))) (fetch.Missing (firstMissing m s a))
     (λ e. (value-within m s (aligned s a) (h .bytes), past-within m s a (h .limit) e)) (λ e. tt)
 
 storing-within : (m : List ℕ) (s : Size) (a : ℕ) → SoundMemory m → AccessWithin (storing m s a)
-storing-within m s a h = either AccessWithin (present m s a) (Stored (past s a)) Missing (λ e. past-within m s a (h .limit) e) (λ e. tt)
+unfolding reach
+storing-within m s a h =
+    either (λ r. AccessWithin (storedAccess (past s a) r)) (present m s a) Whole (Short (firstMissing m s a)) (λ e. past-within m s a (h .limit) e) (λ e. tt)
 
 access-within : (c : Command) (m : List ℕ) (pointer address : ℕ) → SoundMemory m → AccessWithin (accessOf c m pointer address)
 access-within Unknown m p a h = tt
@@ -94,7 +98,7 @@ access-ending-within (Fetched Byte v past) h = omega (arith, h .0)
 access-ending-within (Fetched Word v past) h = h .0
 access-ending-within (Fetched Long v past) h = h .0
 access-ending-within (Stored past) h = tt
-access-ending-within Missing h = tt
+access-ending-within (Missing first) h = tt
 
 shown-within : (w : ℕ) (source : Source) (b : Board) (address : ℕ) → SoundBoard w b → EndingWithin (shownEnding (shown source b address))
 unfolding controlFetched
@@ -142,7 +146,7 @@ pointer-within : (x : Access) (pointer : ℕ) → AccessWithin x → pointer ≤
 pointer-within NoAccess p h k = k
 pointer-within (Fetched s v past) p h k = h .1
 pointer-within (Stored past) p h k = h
-pointer-within Missing p h k = k
+pointer-within (Missing first) p h k = k
 
 pub work-keeps-place : (w : ℕ) (c : Command) (b : Board) (p : Place) (m : List ℕ) (address : ℕ) → SoundBoard w b → SoundPlace w p → SoundMemory m
     → SoundPlace w (placeAfter c p (accessOf c m (p .pointer) address) (endingOf c b address (accessOf c m (p .pointer) address)))

@@ -1,3 +1,4 @@
 pub mod Step
 pub mod StepMirror
 pub mod StepMirrorLaws
+pub mod StepFaultLaws

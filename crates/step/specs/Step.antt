@@ -10,14 +10,15 @@ use Rattle.board.specs.declared.Phase.{Phase}
 use Rattle.board.specs.declared.Phase.the-variants.{Rest, Due, Waiting, Upper}
 use Rattle.board.specs.declared.Chain.{Chain}
 use Rattle.board.specs.declared.Chain.the-variants.{Off}
-use Rattle.board.specs.Setters.{placeWith}
+use Rattle.board.specs.Setters.{withFault, placeWith}
 use Rattle.board.specs.State.{State, stateOf, standingOf}
 use Rattle.registers.specs.Registers.{boardAfter}
 use Rattle.access.specs.Access.{accessOf, memoryAfter}
 use Rattle.work.specs.Work.{endingOf, placeAfter}
 use Rattle.plan.specs.declared.Plan.{Plan}
 use Rattle.plan.specs.declared.Plan.the-variants.{Hold, Reject, Release, Work}
-use Rattle.plan.specs.Plan.{planOf}
+use Rattle.plan.specs.Plan.{takenFor, planOf}
+use Rattle.faults.specs.Fault.{faultTaken, faultAfter}
 
 -- "While operands are due the reply is 0x10000"; waiting too; else the reply held
 abbrev pub replyIn : Phase → ℕ → ℕ
@@ -58,11 +59,12 @@ holding p phase = placeWith p phase (chainIn phase (p .chain)) (p .pointer) notR
 abbrev pub released : Place → ℕ → Place
 released p low = placeWith p Rest (p .chain) (p .pointer) low
 
--- "then the work is done"
+-- "then the work is done"; [4] a memory command's bus error keeps the lowest address that was not there
 abbrev pub worked : Command → ℕ → ℕ → State → State
 worked c address value s =
     let access = accessOf c (s .memory) (s .place .pointer) address in
-    stateOf (boardAfter c (s .board) address value) (placeAfter c (s .place) access (endingOf c (s .board) address access))
+    let ending = endingOf c (s .board) address access in
+    stateOf (withFault (boardAfter c (s .board) address value) (faultAfter ending access (s .board .fault))) (placeAfter c (s .place) access ending)
     (memoryAfter c (s .memory) (s .place .pointer) address value)
 
 -- what a packet leaves, by what it is taken for: where no command works, the board and memory stay
@@ -75,5 +77,9 @@ left (Work c address value) s = worked c address value s
 unfoldable pub planFor : Board → Place → ℕ → Plan
 planFor b p word = planOf (p .phase) (standingOf b p) (b .w) word
 
+-- [4] "until the next command word other than NOP"
+abbrev pub wordTaken : State → ℕ → State
+wordTaken s word = stateOf (withFault (s .board) (faultTaken (takenFor (s .place .phase)) word (s .board .fault))) (s .place) (s .memory)
+
 unfoldable pub stepped : State → ℕ → State
-stepped s word = left (planFor (s .board) (s .place) word) s
+stepped s word = left (planFor (s .board) (s .place) word) (wordTaken s word)

@@ -1,10 +1,12 @@
 // The step of an accepted packet: the reply from the state before it, then the input (01, "Packets").
 ghost use mathlib.Core.Path.{_≡_};
+ghost use Rattle.board.specs.Setters.{withFault};
 ghost use Rattle.board.specs.State.{stateOf};
 ghost use Rattle.step.specs.Step.{replyNow, chainDuring, chainIn, rejected, holding, released, left, planFor, stepped};
 ghost use Rattle.step.specs.StepMirror.{leavesBoard, withoutWork};
 use board::Board;
 use board::Chain;
+use board::Fault;
 use board::Phase;
 use board::Place;
 use command::Base;
@@ -122,27 +124,30 @@ fn leaves_board(command: Command) -> bool
     }
 }
 
-pub fn carry_out(board: Board, place: Place, memory: &mut [u8], plan: Plan) -> Next
-    ensures { λ r. ⌜ stateOf (r .board) (r .place) (now (memory .exit)) ≡ left plan (stateOf board place (now (memory .entry))) ⌝ }
+// The board with this fault for its own.
+pub fn carry_out(board: Board, fault: Fault, place: Place, memory: &mut [u8], plan: Plan) -> Next
+    ensures { λ r. ⌜ stateOf (r .board) (r .place) (now (memory .exit)) ≡ left plan (stateOf (withFault board fault) place (now (memory .entry))) ⌝ }
 {
     match plan {
         Plan::Work(command, address, value) => {
             let access = access::make_access(memory, command, place.pointer, address, value);
             let ending = work::find_ending(command, board, address, access);
             let settled = work::settle(command, place, access, ending);
+            let kept = faults::after_work(ending, access, fault);
             if leaves_board(command) {
                 return Next {
-                    board: board,
+                    board: board::set_fault(board, kept),
                     place: settled,
                 };
             }
+            let worked = registers::board_after(command, board, address, value);
             Next {
-                board: registers::board_after(command, board, address, value),
+                board: board::set_fault(worked, kept),
                 place: settled,
             }
         }
         _ => Next {
-            board: board,
+            board: board::set_fault(board, fault),
             place: settle_without_work(place, plan),
         },
     }
@@ -159,5 +164,8 @@ pub fn take_word(board: Board, place: Place, memory: &mut [u8], word: u32) -> Ne
     ensures { λ r. ⌜ stateOf (r .board) (r .place) (now (memory .exit)) ≡ stepped (stateOf board place (now (memory .entry))) word ⌝ }
 {
     let plan = plan_for(board, place, word);
-    carry_out(board, place, memory, plan)
+    let phase = place.phase;
+    let before = board.fault;
+    let fault = faults::after_word(phase, word, before);
+    carry_out(board, fault, place, memory, plan)
 }

@@ -33,7 +33,7 @@ use Rattle.pod_laws.specs.MeantCommandLaws.{decoded-as-meant}
 use Rattle.pod_laws.specs.RequestCountLaws.{operand-count}
 use Rattle.round_trip.specs.Meaning.{Scene}
 use Rattle.round_trip.specs.RoundTrip.{resting, legalThere}
-use Rattle.round_trip.specs.PacketTakenLaws.{waits-none, waits-more, due-none, due-more, operand-taken, wait-taken, command-taken}
+use Rattle.round_trip.specs.PacketTakenLaws.{waits-none, waits-more, due-none, due-more, operand-taken, wait-taken, sceneTaken, command-taken}
 use Rattle.round_trip.specs.ClosesLaws.{Fits, endedIn, taken}
 use Rattle.round_trip.specs.MeantWorkLaws.{Sized, workEnding, workScene}
 use Rattle.round_trip.specs.MeaningLaws.{legal-is-known, addressSent, valueSent, work-is-meant}
@@ -118,13 +118,17 @@ module _ (kind : ResultKind) (c : Command) (s : State) where
 
 -- ---- a request whose command word is legal
 module _ (request : Request) (s : Scene) (next : ℕ) (h : inRange request ≡ true) (l : legalThere request s ≡ true) (z : Sized s) where
+  -- once its command word is taken
+  abbrev begun : Scene
+  begun = sceneTaken (commandWord request) s
+
   -- the packets between its operand words and the one that carries out its closing reply
   abbrev pub waitsThere : ℕ
-  waitsThere = waitsOf (s .board .w) (commandOf request) + shownBefore (workEnding (commandOf request) (addressSent request) s)
+  waitsThere = waitsOf (s .board .w) (commandOf request) + shownBefore (workEnding (commandOf request) (addressSent request) begun)
 
   pub waits-bound : s .board .w ≤ 15 → waitsThere ≤ 16
   waits-bound small =
-      omega (arith, waits-at-most (s .board .w) (commandOf request), shown-at-most (workEnding (commandOf request) (addressSent request) s))
+      omega (arith, waits-at-most (s .board .w) (commandOf request), shown-at-most (workEnding (commandOf request) (addressSent request) begun))
 
   pub legal-ahead : Ahead (kindOf request) (operands request) waitsThere First (stepped (resting s next) (commandWord request))
   legal-ahead =
@@ -132,12 +136,13 @@ module _ (request : Request) (s : Scene) (next : ℕ) (h : inRange request ≡ t
       let k = kindOf request in
       let w = s .board .w in
       let known = legal-is-known request s h l in
-      let ending = workEnding c (addressSent request) s in
-      let taken-as : stepped (resting s next) (commandWord request) ≡ left (collected w (length (operands request)) c noOperands) (resting s next) =
+      let ending = workEnding c (addressSent request) begun in
+      let sized : Sized begun = record { bytes = z .bytes; general = z .general; control = z .control } in
+      let taken-as : stepped (resting s next) (commandWord request) ≡ left (collected w (length (operands request)) c noOperands) (resting begun next) =
       command-taken c (commandWord request) next s (decoded-as-meant request h) l
-      ∙ ap (λ n. left (collected w n c noOperands) (resting s next)) (sym (operand-count request known)) in
+      ∙ ap (λ n. left (collected w n c noOperands) (resting begun next)) (sym (operand-count request known)) in
       subst (λ x. Ahead k (operands request) waitsThere First x) (sym taken-as)
-      (operands-ahead k c (resting s next) (operands request) waitsThere noOperands (operands-clear request h)
+      (operands-ahead k c (resting begun next) (operands request) waitsThere noOperands (operands-clear request h)
       (rw (due-none w c (taken noOperands (operands request)))
-      (waits-ahead k c (resting s next) (waitsOf w c) (shownBefore ending) (addressSent request) (valueSent request)
-      (ending-ahead k ending (workScene c (addressSent request) (valueSent request) s) (work-is-meant request s h known .fits z)))))
+      (waits-ahead k c (resting begun next) (waitsOf w c) (shownBefore ending) (addressSent request) (valueSent request)
+      (ending-ahead k ending (workScene c (addressSent request) (valueSent request) begun) (work-is-meant request s h known .fits sized)))))

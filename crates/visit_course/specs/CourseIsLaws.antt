@@ -17,7 +17,7 @@ use Rattle.board.specs.State.{State}
 use Rattle.sound.specs.Sound.{Sound}
 use Rattle.asked.specs.VisitRequests.{registersAsked}
 use Rattle.visit.specs.Visit.{tableInRange}
-use Rattle.round_trip.specs.Meaning.{Scene}
+use Rattle.round_trip.specs.Meaning.{Scene, cleared}
 use Rattle.round_trip.specs.BroughtToRest.{restBudget, restScene}
 use Rattle.round_trip.specs.BroughtToRestLaws.{rest-keeps-sound}
 use Rattle.visit_course.specs.VisitCourse.{Course, behindMarker, courseFrom, courseOf}
@@ -35,9 +35,9 @@ pub record CourseIs (address longwords : ℕ) (found : Scene) (c : Course) : Typ
   -- the stated number of packets
   pub packets : c .packets
       ≡ packetsStated (found .board .w) (found .board .status .halted) (longwordsThere address longwords (length (found .memory))) longwords
-  -- reading alters no memory, and of the board what reading CSR clears
+  -- reading alters no memory, and of the board what reading CSR clears and, [4], a command word
   pub memory : c .leaves .memory ≡ found .memory
-  pub board : c .leaves .board ≡ csrCleared (found .board)
+  pub board : c .leaves .board ≡ cleared (csrCleared (found .board))
   -- no DUMP and no FILL is left to follow
   pub chain : c .leaves .chain ≡ Off
 

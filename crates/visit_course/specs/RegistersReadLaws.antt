@@ -20,7 +20,7 @@ use Rattle.readings.specs.declared.Outcome.the-variants.{Value, Illegal}
 use Rattle.pod_laws.specs.MeantCommandLaws.{decoded-as-meant}
 use Rattle.asked.specs.VisitRequests.{registersAsked, registerRequest, requestAt, inTable, marked}
 use Rattle.asked.specs.Marker.{markerPackets}
-use Rattle.round_trip.specs.Meaning.{Scene}
+use Rattle.round_trip.specs.Meaning.{Scene, cleared}
 use Rattle.round_trip.specs.RoundTrip.{unchained, legalThere, packetsThere}
 use Rattle.visit_course.specs.VisitCourse.{Course, noting, courseFrom}
 use Rattle.visit_course.specs.PacketsStated.{processorPackets, registersPackets}
@@ -76,7 +76,8 @@ module _ (s : Scene) (h : s .board .status .halted ≡ true) where
       record { outcome = rw (legal, index, listed); packets = rw (legal, index, listed) (omega arith); leaves = rw (legal, index, listed) }
 
 csr-comes-to : (s : Scene)
-    → ComesTo (Rdmreg 0) s (Value (csrValue (s .board))) 3 (record { board = csrCleared (s .board); chain = Off; pointer = s .pointer; memory = s .memory })
+    → ComesTo (Rdmreg 0) s (Value (csrValue (s .board))) 3
+    (record { board = cleared (csrCleared (s .board)); chain = Off; pointer = s .pointer; memory = s .memory })
 unfolding packetsThere
 csr-comes-to s = let legal = csr-legal s in record { outcome = rw legal; packets = rw legal; leaves = rw legal }
 
@@ -148,9 +149,10 @@ module _ (address : ℕ) (s : Scene) where
   -- ---- all of them
   -- what they leave
   abbrev pub sceneAsked : Scene
-  sceneAsked = record { board = csrCleared (s .board); chain = Off; pointer = s .pointer; memory = s .memory }
+  sceneAsked = record { board = cleared (csrCleared (s .board)); chain = Off; pointer = s .pointer; memory = s .memory }
 
   csr-notes : (left : ℕ) → courseFrom (suc left) address 26 u ≡ noting (Value (csrValue (s .board))) 3 (onTable left address registersAsked sceneAsked)
+  unfolding csrValue
   csr-notes left = course-step left address 26 (request-of 26 (omega arith)) (csr-comes-to u)
 
   -- the processor's, halted or running

@@ -16,10 +16,10 @@ use Rattle.board.specs.declared.Operands.{Operands}
 use Rattle.board.specs.declared.Phase.{Phase}
 use Rattle.board.specs.declared.Phase.the-variants.{Rest, Due, Waiting, Upper}
 use Rattle.board.specs.State.{State}
-use Rattle.registers.specs.Registers.{boardAfter}
+use Rattle.step.specs.Step.{worked}
 use Rattle.access.specs.Access.{startOf, memoryAfter}
 use Rattle.plan.specs.Plan.{withOperand, addressIn, valueIn}
-use Rattle.round_trip.specs.Meaning.{Scene}
+use Rattle.round_trip.specs.Meaning.{Scene, cleared}
 
 -- the command whose work is still to be done; at rest, and where a result word is still to leave, none: a NOP's work
 abbrev pub commandUnderWay : Phase → Command
@@ -51,7 +51,7 @@ memoryAtRest s =
     memoryAfter (commandUnderWay (s .place .phase)) (s .memory) (s .place .pointer) (addressDue (s .place .phase)) (valueDue (s .place .phase))
 
 abbrev pub boardAtRest : State → Board
-boardAtRest s = boardAfter (commandUnderWay (s .place .phase)) (s .board) (addressDue (s .place .phase)) (valueDue (s .place .phase))
+boardAtRest s = worked (commandUnderWay (s .place .phase)) (addressDue (s .place .phase)) (valueDue (s .place .phase)) s .board
 
 -- WRITE and FILL
 abbrev pub isStore : Command → Bool
@@ -82,8 +82,8 @@ pub record RestCompletes (s : State) (found : Scene) : Type 0 where
   -- "otherwise the NOPs may complete that one access"
   pub one : (size : Size) (base : Base) → commandUnderWay (s .place .phase) ≡ Store size base
       → found .memory ≡ stored (s .memory) size (startOf base (s .place .pointer) (addressDue (s .place .phase))) (valueDue (s .place .phase))
-  -- ".. and alter nothing else": every other byte is as it was, memory as long, and then the board too
+  -- ".. and alter nothing else": every other byte is as it was, memory as long, and then the board too, but for [4]'s number
   pub elsewhere : (i : ℕ) → touches (commandUnderWay (s .place .phase)) (s .place .pointer) (addressDue (s .place .phase)) i ≡ false
       → getD (found .memory) i 0 ≡ getD (s .memory) i 0
   pub size : length (found .memory) ≡ length (s .memory)
-  pub boardStays : isStore (commandUnderWay (s .place .phase)) ≡ true → found .board ≡ s .board
+  pub boardStays : isStore (commandUnderWay (s .place .phase)) ≡ true → cleared (found .board) ≡ cleared (s .board)

@@ -32,7 +32,9 @@ use Rattle.plan.specs.declared.Plan.{Plan}
 use Rattle.plan.specs.declared.Plan.the-variants.{Hold, Reject, Release, Work}
 use Rattle.plan.specs.Plan.{withOperand, addressIn, valueIn, workAfter, waitsOf, collected, continued, planOf}
 use Rattle.plan.specs.PlanLaws.{nop-plan}
-use Rattle.step.specs.Step.{left, planFor, stepped}
+use Rattle.step.specs.Step.{worked, left, planFor, stepped}
+use Rattle.step.specs.StepFaultLaws.{nop-step}
+use Rattle.round_trip.specs.Meaning.{cleared}
 use Rattle.sound.specs.Sound.{PhaseWithin, Sound}
 use Rattle.sound.specs.SoundLaws.{packet-keeps-sound}
 use Rattle.visit.specs.Visit.{tableInRange}
@@ -81,7 +83,7 @@ module _ (s : State) where
   memoryBy c a v = memoryAfter c (s .memory) (s .place .pointer) a v
 
   abbrev boardBy : Command → ℕ → ℕ → Board
-  boardBy c a v = boardAfter c (s .board) a v
+  boardBy c a v = worked c a v s .board
 
 -- where a command's work has been done, none is under way
 done-memory : (e : Ending) (m : List ℕ) (pointer : ℕ)
@@ -91,11 +93,12 @@ done-memory Failed m pointer = refl
 done-memory (OneWord v) m pointer = refl
 done-memory (TwoWords v) m pointer = refl
 
-done-board : (e : Ending) (b : Board) → boardAfter (commandUnderWay (phaseAfter e)) b (addressDue (phaseAfter e)) (valueDue (phaseAfter e)) ≡ b
-done-board Complete b = refl
-done-board Failed b = refl
-done-board (OneWord v) b = refl
-done-board (TwoWords v) b = refl
+done-board : (s : State) (e : Ending)
+    → worked (commandUnderWay (phaseAfter e)) (addressDue (phaseAfter e)) (valueDue (phaseAfter e)) s .board ≡ s .board
+done-board s Complete = refl
+done-board s Failed = refl
+done-board s (OneWord v) = refl
+done-board s (TwoWords v) = refl
 
 left-memory : (plan : Plan) (s : State) → memoryAtRest (left plan s) ≡ duePlan (memoryBy s) plan
 left-memory (Hold phase) s = refl
@@ -107,17 +110,21 @@ left-board : (plan : Plan) (s : State) → boardAtRest (left plan s) ≡ duePlan
 left-board (Hold phase) s = refl
 left-board Reject s = refl
 left-board (Release low) s = refl
-left-board (Work c a v) s = done-board (endingOf c (s .board) a (accessOf c (s .memory) (s .place .pointer) a)) (boardBy s c a v)
+left-board (Work c a v) s = done-board (left (Work c a v) s) (endingOf c (s .board) a (accessOf c (s .memory) (s .place .pointer) a))
 
 nop-keeps-memory : (s : State) → Sound s → memoryAtRest (stepped s 0) ≡ memoryAtRest s
-unfolding stepped planFor
+unfolding planFor
 nop-keeps-memory s f =
-    left-memory (planFor (s .board) (s .place) 0) s ∙ nop-due (memoryBy s) (s .place .phase) (standingOf (s .board) (s .place)) (s .board .w) (f .place .phase)
+    ap memoryAtRest (nop-step s)
+    ∙ left-memory (planFor (s .board) (s .place) 0) s
+    ∙ nop-due (memoryBy s) (s .place .phase) (standingOf (s .board) (s .place)) (s .board .w) (f .place .phase)
 
 nop-keeps-board : (s : State) → Sound s → boardAtRest (stepped s 0) ≡ boardAtRest s
-unfolding stepped planFor
+unfolding planFor
 nop-keeps-board s f =
-    left-board (planFor (s .board) (s .place) 0) s ∙ nop-due (boardBy s) (s .place .phase) (standingOf (s .board) (s .place)) (s .board .w) (f .place .phase)
+    ap boardAtRest (nop-step s)
+    ∙ left-board (planFor (s .board) (s .place) 0) s
+    ∙ nop-due (boardBy s) (s .place .phase) (standingOf (s .board) (s .place)) (s .board .w) (f .place .phase)
 
 -- ---- and so do NOPs until it rests
 -- what every NOP keeps
@@ -189,7 +196,7 @@ no-store (Store size base) m p a v t = absurd (true≢false t)
 no-store (Show source) m p a v t = refl
 no-store (Change target) m p a v t = refl
 
-store-leaves-board : (c : Command) (b : Board) (a v : ℕ) → isStore c ≡ true → boardAfter c b a v ≡ b
+store-leaves-board : (c : Command) (b : Board) (a v : ℕ) → isStore c ≡ true → cleared (boardAfter c b a v) ≡ cleared b
 store-leaves-board Unknown b a v t = refl
 store-leaves-board Nop b a v t = refl
 store-leaves-board (Load size base) b a v t = refl
@@ -210,7 +217,7 @@ rest-completes s f =
       one = λ size base e. memory ∙ ap (λ (c : Command). memoryAfter c (s .memory) (s .place .pointer) (addressDue phase) (valueDue phase)) e;
       elsewhere = λ i t. rw memory (work-elsewhere (commandUnderWay phase) (s .memory) (s .place .pointer) (addressDue phase) (valueDue phase) i t);
       size = rw memory (work-keeps-size (commandUnderWay phase) (s .memory) (s .place .pointer) (addressDue phase) (valueDue phase));
-      boardStays = λ t. board ∙ store-leaves-board (commandUnderWay phase) (s .board) (addressDue phase) (valueDue phase) t;
+      boardStays = λ t. ap cleared board ∙ store-leaves-board (commandUnderWay phase) (s .board) (addressDue phase) (valueDue phase) t;
     }
 
 -- .. of a visit: "Memory is as it was where no WRITE or FILL was under way", and else but for the bytes of that one access

@@ -17,7 +17,7 @@ use Rattle.readings.specs.declared.Outcome.{Outcome}
 use Rattle.readings.specs.declared.Outcome.the-variants.{Value, BusError}
 use Rattle.asked.specs.VisitRequests.{registersAsked, begins, addressAt, tableRequest, requestAt, inTable, marked}
 use Rattle.asked.specs.Marker.{markerPackets}
-use Rattle.round_trip.specs.Meaning.{Scene}
+use Rattle.round_trip.specs.Meaning.{Scene, cleared, misses}
 use Rattle.round_trip.specs.RoundTrip.{unchained, legalThere, packetsThere}
 use Rattle.visit_course.specs.VisitCourse.{Course, nothingMore, behindMarker, behind, noting, courseFrom}
 use Rattle.visit_course.specs.CourseStepLaws.{ComesTo, courseBehind, course-step}
@@ -33,7 +33,11 @@ dump-legal s e = by-test (s .board .status .halted) (λ h. rw (h, e)) (λ h. rw 
 
 -- what a longword read leaves
 abbrev pub sceneRead : ℕ → Scene → Scene
-sceneRead pointer s = record { board = s .board; chain = Dumping; pointer = pointer; memory = s .memory }
+sceneRead pointer s = record { board = cleared (s .board); chain = Dumping; pointer = pointer; memory = s .memory }
+
+-- and what one that is missing leaves
+abbrev sceneMissed : ℕ → Scene → Scene
+sceneMissed a s = misses Long a s .leaves
 
 module _ (a : ℕ) (s : Scene) where
   read-there : present (s .memory) Long a ≡ true
@@ -41,7 +45,7 @@ module _ (a : ℕ) (s : Scene) where
   unfolding packetsThere
   read-there t = record { outcome = rw (read-legal a s, t); packets = rw (read-legal a s, t); leaves = rw (read-legal a s, t) }
 
-  read-missing : present (s .memory) Long a ≡ false → ComesTo (Read Long a) s BusError (3 + (s .board .w + 1)) (unchained s)
+  read-missing : present (s .memory) Long a ≡ false → ComesTo (Read Long a) s BusError (3 + (s .board .w + 1)) (sceneMissed a s)
   unfolding packetsThere
   read-missing t = record { outcome = rw (read-legal a s, t); packets = rw (read-legal a s, t); leaves = rw (read-legal a s, t) }
 
@@ -51,7 +55,7 @@ module _ (a : ℕ) (s : Scene) where
   dump-there e p t = record { outcome = rw (dump-legal s e, p, t); packets = rw (dump-legal s e, p, t); leaves = rw (dump-legal s e, p, t) }
 
   dump-missing : s .chain ≡ Dumping → s .pointer ≡ a → present (s .memory) Long a ≡ false
-      → ComesTo (Dump Long) s BusError (1 + (s .board .w + 1)) (unchained s)
+      → ComesTo (Dump Long) s BusError (1 + (s .board .w + 1)) (sceneMissed a s)
   unfolding packetsThere
   dump-missing e p t = record { outcome = rw (dump-legal s e, p, t); packets = rw (dump-legal s e, p, t); leaves = rw (dump-legal s e, p, t) }
 
@@ -89,7 +93,7 @@ module _ (address k : ℕ) (s : Scene) (whole : address % 4 ≡ 0) (within : add
       rw b (rw (after, aligned-address, three) at (dump-there at s (f b .0) (f b .1) t)))
 
   longword-missing : present (s .memory) Long (address + 4 * k) ≡ false → InBlock address k s
-      → ComesTo (tableRequest address k) (foundAt k s) BusError (requestPackets k (2 + s .board .w)) (unchained s)
+      → ComesTo (tableRequest address k) (foundAt k s) BusError (requestPackets k (2 + s .board .w)) (sceneMissed (address + 4 * k) s)
   longword-missing t f =
       let at = address + 4 * k in
       by-test (begins k)
@@ -145,4 +149,6 @@ module _ (address left k j : ℕ) (s : Scene) (e : j ≡ registersAsked + k) whe
     -- one that is missing
     pub missing-step : present (s .memory) Long (address + 4 * k) ≡ false
         → onTable (suc left) address j s ≡ noting BusError (longwordPackets k (2 + s .board .w)) (behindMarker nothingMore s)
-    missing-step t = rw in-table at (longword-step BusError (2 + s .board .w) (unchained s) (longword-missing address k s whole within t follows))
+    missing-step t =
+        rw in-table at
+        (longword-step BusError (2 + s .board .w) (sceneMissed (address + 4 * k) s) (longword-missing address k s whole within t follows))

@@ -17,7 +17,7 @@ use Rattle.readings.specs.declared.Outcome.the-variants.{Value, BusError}
 use Rattle.asked.specs.VisitRequests.{registersAsked}
 use Rattle.visit.specs.Visit.{tableInRange}
 use Rattle.visit.specs.VisitLaws.{table-whole, table-within}
-use Rattle.round_trip.specs.Meaning.{Scene}
+use Rattle.round_trip.specs.Meaning.{Scene, cleared}
 use Rattle.visit_course.specs.VisitCourse.{Course, courseFrom}
 use Rattle.visit_course.specs.TableRead.{tableFrom, tableRead, longwordsThere, longwordsAsked}
 use Rattle.visit_course.specs.TableCourseLaws.{InBlock, sceneRead, onTable, end-marked, there-step, missing-step}
@@ -26,8 +26,8 @@ use Rattle.visit_course.specs.TableCourseLaws.{InBlock, sceneRead, onTab
 pub record TableComes (left address k : ℕ) (s : Scene) (c : Course) : Type 0 where
   -- the longwords of memory in turn
   pub outcomes : c .outcomes ≡ tableFrom left address k (s .memory)
-  -- reading alters no register and no memory
-  pub board : c .leaves .board ≡ s .board
+  -- reading alters no register and no memory; the last marker clears [4]'s number
+  pub board : c .leaves .board ≡ cleared (s .board)
   pub memory : c .leaves .memory ≡ s .memory
   -- the last marker ends the chain
   pub chain : c .leaves .chain ≡ Off

@@ -20,7 +20,7 @@ pub record Course : Type 0 where
 abbrev pub nothingMore : Scene → Course
 nothingMore s = record { outcomes = []; packets = 0; leaves = s }
 
--- a marker first: its illegal word ends the chain, and it leaves all else
+-- a marker first: its illegal word ends the chain and, [4], clears the address that was not there; it leaves all else
 abbrev pub behindMarker : (Scene → Course) → Scene → Course
 behindMarker rest s = record {
   outcomes = rest (unchained s) .outcomes;
@@ -36,7 +36,7 @@ behind false rest s = rest s
 abbrev pub noting : Outcome → ℕ → Course → Course
 noting o packets rest = record { outcomes = o ∷ rest .outcomes; packets = packets + rest .packets; leaves = rest .leaves }
 
--- what a request leaves; an illegal word "ends the chain" and alters nothing else
+-- what a request leaves; an illegal word "ends the chain", clears that address and alters nothing else
 abbrev pub leavesThere : Request → Scene → Scene
 leavesThere request s = cond (legalThere request s) (meaning request s .leaves) (unchained s)
 

@@ -1,3 +1,4 @@
 pub mod Work
 pub mod WorkLaws
 pub mod WorkMirror
+pub mod FaultApartLaws

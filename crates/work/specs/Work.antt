@@ -2,8 +2,8 @@
 use Prim.Native.Nat.{ℕ, _/_, _%_}
 use mathlib.Core.Bool.{Bool, true, false}
 use Rattle.memory.specs.declared.Size.the-variants.{Byte, Word, Long}
-use Rattle.memory.specs.declared.Fetch.{Fetch}
-use Rattle.memory.specs.declared.Fetch.the-variants.{Value, BusError}
+use Rattle.control.specs.declared.Shown.{Shown}
+use Rattle.control.specs.declared.Shown.the-variants.{Value, BusError}
 use Rattle.command.specs.declared.Command.{Command}
 use Rattle.command.specs.declared.Command.the-variants.{Unknown, Nop, Load, Store, Show, Change}
 use Rattle.command.specs.Reply.{complete, busError}
@@ -27,10 +27,10 @@ accessEnding (Fetched Byte v past) = OneWord v
 accessEnding (Fetched Word v past) = OneWord v
 accessEnding (Fetched Long v past) = TwoWords v
 accessEnding (Stored past) = Complete
-accessEnding Missing = Failed
+accessEnding (Missing first) = Failed
 
 -- a register shown has two result words
-abbrev pub shownEnding : Fetch → Ending
+abbrev pub shownEnding : Shown → Ending
 shownEnding (Value v) = TwoWords v
 shownEnding BusError = Failed
 

@@ -4,9 +4,10 @@ use mathlib.Core.Path.{_≡_, refl}
 use mathlib.Core.Bool.{Bool, true, false, cond}
 use mathlib.Core.List.{List}
 use Rattle.memory.specs.declared.Size.the-variants.{Byte, Word, Long}
-use Rattle.memory.specs.Memory.{aligned, present, putAt, stored}
-use Rattle.memory.specs.declared.Fetch.{Fetch}
-use Rattle.memory.specs.declared.Fetch.the-variants.{Value, BusError}
+use Rattle.memory.specs.declared.Reach.the-variants.{Whole, Short}
+use Rattle.memory.specs.Memory.{aligned, present, firstMissing, putAt, stored, reach}
+use Rattle.control.specs.declared.Shown.{Shown}
+use Rattle.control.specs.declared.Shown.the-variants.{Value, BusError}
 use Rattle.command.specs.declared.Source.{Source}
 use Rattle.command.specs.declared.Source.the-variants as source
 use Rattle.command.specs.declared.Command.{Command}
@@ -17,12 +18,12 @@ use Rattle.board.specs.declared.Chain.{Chain}
 use Rattle.access.specs.declared.Access.{Access}
 use Rattle.access.specs.declared.Access.the-variants.{NoAccess, Fetched, Stored, Missing}
 use Rattle.work.specs.declared.Ending.the-variants.{Failed}
-use Rattle.access.specs.Access.{past, startOf, accessOf, memoryAfter, pointerAfter}
+use Rattle.access.specs.Access.{past, storedAccess, startOf, accessOf, memoryAfter, pointerAfter}
 use Rattle.work.specs.WorkMirror.{valueEnding}
 use Rattle.work.specs.Work.{accessEnding, shownEnding, endingOf, chainBy}
 
 -- every register is shown in two words
-pub register-ending : (from : Source) (found : Fetch) → valueEnding (Show from) found ≡ shownEnding found
+pub register-ending : (from : Source) (found : Shown) → valueEnding (Show from) found ≡ shownEnding found
 register-ending (source.General n) (Value v) = refl
 register-ending source.Control (Value v) = refl
 register-ending source.Csr (Value v) = refl
@@ -35,7 +36,7 @@ failed-access-leaves-pointer (Fetched Byte v past) pointer e = cc
 failed-access-leaves-pointer (Fetched Word v past) pointer e = cc
 failed-access-leaves-pointer (Fetched Long v past) pointer e = cc
 failed-access-leaves-pointer (Stored past) pointer e = cc
-failed-access-leaves-pointer Missing pointer e = refl
+failed-access-leaves-pointer (Missing first) pointer e = refl
 
 pub bus-error-leaves-pointer : (c : Command) (b : Board) (m : List ℕ) (pointer address : ℕ)
     → endingOf c b address (accessOf c m pointer address) ≡ Failed → pointerAfter (accessOf c m pointer address) pointer ≡ pointer
@@ -49,16 +50,17 @@ bus-error-leaves-pointer (Change target) b m pointer address e = refl
 -- "a bus error .. alters nothing"
 pub bus-error-leaves-memory : (c : Command) (b : Board) (m : List ℕ) (pointer address value : ℕ)
     → endingOf c b address (accessOf c m pointer address) ≡ Failed → memoryAfter c m pointer address value ≡ m
-unfolding stored
+unfolding stored reach
 bus-error-leaves-memory Unknown b m pointer address value e = refl
 bus-error-leaves-memory Nop b m pointer address value e = refl
 bus-error-leaves-memory (Load s base) b m pointer address value e = refl
 bus-error-leaves-memory (Store s base) b m pointer address value e =
-    let start = startOf base pointer address in missed (present m s start) (past s start) (putAt m s (aligned s start) value) e
+    let start = startOf base pointer address in
+    missed (present m s start) (past s start) (firstMissing m s start) (putAt m s (aligned s start) value) e
   where
-    missed : (t : Bool) (n : ℕ) (x : List ℕ) → accessEnding (cond t (Stored n) Missing) ≡ Failed → cond t x m ≡ m
-    missed true n x h = cc
-    missed false n x h = refl
+    missed : (t : Bool) (n first : ℕ) (x : List ℕ) → accessEnding (storedAccess n (cond t Whole (Short first))) ≡ Failed → cond t x m ≡ m
+    missed true n first x h = cc
+    missed false n first x h = refl
 bus-error-leaves-memory (Show source) b m pointer address value e = refl
 bus-error-leaves-memory (Change target) b m pointer address value e = refl
 

@@ -11,7 +11,7 @@ use command::Base;
 use command::Command;
 use command::Source;
 use command::Target;
-use memory::Fetch;
+use control::Shown;
 use memory::Size;
 
 // What a command's work ends in.
@@ -23,17 +23,17 @@ pub enum Ending {
 }
 
 // A value goes out in as many words as the command's line of the table says.
-fn end_value(command: Command, found: Fetch) -> Ending
+fn end_value(command: Command, found: Shown) -> Ending
     ensures { λ r. ⌜ r ≡ valueEnding command found ⌝ }
 {
     match found {
-        Fetch::Value(value) => {
+        Shown::Value(value) => {
             if command::result_count(command) == 1 {
                 return Ending::OneWord(value);
             }
             Ending::TwoWords(value)
         }
-        Fetch::BusError => Ending::Failed,
+        Shown::BusError => Ending::Failed,
     }
 }
 
@@ -44,7 +44,7 @@ fn end_access(access: Access) -> Ending
         Access::NoAccess => Ending::Complete,
         // An arm for each size, so that the compiler knows the count.
         Access::Fetched(size, value, _) => {
-            let found = Fetch::Value(value);
+            let found = Shown::Value(value);
             match size {
                 Size::Byte => end_value(Command::Load(Size::Byte, Base::Address), found),
                 Size::Word => end_value(Command::Load(Size::Word, Base::Address), found),
@@ -52,7 +52,7 @@ fn end_access(access: Access) -> Ending
             }
         }
         Access::Stored(_) => Ending::Complete,
-        Access::Missing => Ending::Failed,
+        Access::Missing(_) => Ending::Failed,
     }
 }
 
@@ -76,7 +76,7 @@ pub fn find_ending(command: Command, board: Board, address: u32, access: Access)
         Command::Show(source) => match source {
             Source::General(n) => {
                 let value = control::general_of(board, n as u32);
-                end_value(Command::Show(Source::General(n)), Fetch::Value(value))
+                end_value(Command::Show(Source::General(n)), Shown::Value(value))
             }
             Source::Control => {
                 end_value(
@@ -84,7 +84,7 @@ pub fn find_ending(command: Command, board: Board, address: u32, access: Access)
                     control::fetch_control(board, address),
                 )
             }
-            Source::Csr => end_value(Command::Show(Source::Csr), Fetch::Value(csr::csr_of(board))),
+            Source::Csr => end_value(Command::Show(Source::Csr), Shown::Value(csr::csr_of(board))),
         },
         Command::Change(target) => match target {
             Target::General(_) => Ending::Complete,

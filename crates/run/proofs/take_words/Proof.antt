@@ -1,11 +1,14 @@
 use lib.ListN.{length, drop, getD, length-set}
 use Prim.Native.Nat.{_≤_, _-_}
 use mathlib.Core.Path.{_≡_, refl, sym, ap, _∙_}
+use mathlib.Core.Logic.{⊎-elim}
+use Rattle.board.specs.Setters.{withFault}
 use native.Mathlib.Omega.{arith}
 use borrow.Author.Needs.{needs}
 use Rattle.board.specs.declared.Place.{Place}
 use Rattle.board.specs.State.{stateOf}
-use Rattle.step.specs.Step.{replyNow}
+use Rattle.step.specs.Step.{replyNow, left, wordTaken}
+use Rattle.step.specs.StepFaultLaws.{none-cleared}
 use Rattle.step.proofs.NoWork.{no-work}
 use Rattle.run.specs.Run.{ran}
 use Rattle.run.specs.RunMirror.{written}
@@ -13,6 +16,16 @@ use Rattle.run.specs.RunLaws.{stepped-as, goes-on, ran-out, written-out}
 use Rattle.run.specs.ShortWayLaws.{short-way-step}
 use Rattle.run.proofs.take_words.Statement.{statement}
 use Rattle.run.proofs.take_words.Tie as tie
+use Rattle.run.proofs.take_words.Reads as reads
+use Rattle.run.proofs.take_words.Lts as lts
+use Rattle.board.proofs.set_fault.Reads as set-fault-reads
+use Rattle.faults.proofs.after_word.Reads as after-word-reads
+use Rattle.run.proofs.has_short_way.Reads as has-short-way-reads
+use Rattle.run.proofs.take_short_way.Reads as take-short-way-reads
+use Rattle.step.proofs.carry_out.Reads as carry-out-reads
+use Rattle.step.proofs.plan_for.Reads as plan-for-reads
+use Rattle.step.proofs.reply_of.Reads as reply-of-reads
+use Rattle.step.proofs.settle_without_work.Reads as settle-without-work-reads
 
 abbrev Inv-loop : tie.InvT-loop
 Inv-loop memory₀ words replies₀ b₀ p₀ reply₀ i₀ memory replies b p reply i =
@@ -66,11 +79,23 @@ loop-again c =
     let on = goes-on words (at .i) before (at .replies) (c .before .before .before .before .loop-test .taken) (at .inv .5) step in
     (omega arith, at .inv .1, simp length-set (at .inv .2), on .0 ∙ at .inv .3, on .1 ∙ at .inv .4, on .2)
 
+after-word-requires : tie.Need-after-word-requires Inv-loop μ-loop
+after-word-requires c κs = search needs
+
 plan-for-requires : tie.Need-plan-for-requires Inv-loop μ-loop
 plan-for-requires c κs = search needs
 
 enum-told : tie.Need-enum-told Inv-loop μ-loop
 enum-told c = search needs
+
+enum-told-2 : tie.Need-enum-told-2 Inv-loop μ-loop
+enum-told-2 c = search needs
+
+enum-told-3 : tie.Need-enum-told-3 Inv-loop μ-loop
+enum-told-3 c = search needs
+
+set-fault-requires : tie.Need-set-fault-requires Inv-loop μ-loop
+set-fault-requires c κs = search needs
 
 settle-without-work-requires : tie.Need-settle-without-work-requires Inv-loop μ-loop
 settle-without-work-requires c κs = search needs
@@ -80,12 +105,19 @@ loop-less-2 c = omega arith
 
 loop-again-2 : tie.Need-loop-again-2 Inv-loop μ-loop
 loop-again-2 c =
-    let at = c .before .before .before .before .before .before .before .loop in
-    let words = c .before .before .before .before .before .before .before .before .before .before .before .before .args .words .now in
+    let at = c .before .before .before .before .before .before .before .before .before .loop in
+    let words = c .before .before .before .before .before .before .before .before .before .before .before .before .before .before .args .words .now in
+    let word = getD words (at .i) 0 in
     let before = stateOf (at .b) (at .p) (at .memory) in
-    let step = stepped-as (at .b) (at .p) (at .memory) (getD words (at .i) 0) (c .before .before .plan-for .ensures)
-    (ap (λ (p : Place). stateOf (at .b) p (at .memory)) (c .settle-without-work .ensures) ∙ no-work (at .b) (at .p) (at .memory) (c .before .before .plan-for .result) (c .before .match .keys2)) in
-    let on = goes-on words (at .i) before (at .replies) (c .before .before .before .before .before .before .loop-test .taken) (at .inv .5) step in
+    let cleared : stateOf (c .before .match2 .b) (at .p) (at .memory) ≡ wordTaken before word =
+    ⊎-elim
+    (λ w. ap (λ b. stateOf b (at .p) (at .memory)) (w .2) ∙ none-cleared before word (w .1 .given .1))
+    (λ w. ap (λ b. stateOf b (at .p) (at .memory)) (w .3 ∙ w .2 .ensures) ∙ ap (λ f. stateOf (withFault (at .b) f) (at .p) (at .memory)) (c .before .before .before .before .after-word .ensures))
+    (c .before .match2 .came) in
+    let plan = c .before .before .before .plan-for in
+    let step = stepped-as (at .b) (at .p) (at .memory) word (plan .ensures)
+    (ap (λ (p : Place). stateOf (c .before .match2 .b) p (at .memory)) (c .settle-without-work .ensures) ∙ no-work (c .before .match2 .b) (at .p) (at .memory) (plan .result) (c .before .before .match .keys2) ∙ ap (left (plan .result)) cleared) in
+    let on = goes-on words (at .i) before (at .replies) (c .before .before .before .before .before .before .before .before .loop-test .taken) (at .inv .5) step in
     (omega arith, at .inv .1, simp length-set (at .inv .2), on .0 ∙ at .inv .3, on .1 ∙ at .inv .4, on .2)
 
 carry-out-requires : tie.Need-carry-out-requires Inv-loop μ-loop
@@ -96,12 +128,14 @@ loop-less-3 c = omega arith
 
 loop-again-3 : tie.Need-loop-again-3 Inv-loop μ-loop
 loop-again-3 c =
-    let at = c .before .before .before .before .before .before .before .before .before .before .before .before .before .loop in
-    let words = c .before .before .before .before .before .before .before .before .before .before .before .before .before .before .before .before .before .before .args .words .now in
+    let at = c .before .before .before .before .before .before .before .before .before .before .before .before .before .before .loop in
+    let words = c .before .before .before .before .before .before .before .before .before .before .before .before .before .before .before .before .before .before .before .args .words .now in
     let before = stateOf (at .b) (at .p) (at .memory) in
-    let step = stepped-as (at .b) (at .p) (at .memory) (getD words (at .i) 0) (c .before .before .before .before .before .before .before .before .plan-for .ensures) (c .before .before .before .before .carry-out .ensures) in
-    let on = goes-on words (at .i) before (at .replies) (c .before .before .before .before .before .before .before .before .before .before .before .before .loop-test .taken) (at .inv .5) step in
-    (omega arith, c .before .before .before .before .carry-out .kept .1 .1 .0 ∙ at .inv .1, simp length-set (at .inv .2), on .0 ∙ at .inv .3, on .1 ∙ at .inv .4, on .2)
+    let word = getD words (at .i) 0 in
+    let cleared = ap (λ f. left (c .before .before .before .before .before .before .before .before .plan-for .result) (stateOf (withFault (at .b) f) (at .p) (at .memory))) (c .before .before .before .before .before .before .before .before .before .after-word .ensures) in
+    let step = stepped-as (at .b) (at .p) (at .memory) word (c .before .before .before .before .before .before .before .before .plan-for .ensures) (c .before .before .before .before .carry-out .ensures ∙ cleared) in
+    let on = goes-on words (at .i) before (at .replies) (c .before .before .before .before .before .before .before .before .before .before .before .before .before .loop-test .taken) (at .inv .5) step in
+    (omega arith, c .before .before .before .before .carry-out .kept .1 .1 .1 .0 ∙ at .inv .1, simp length-set (at .inv .2), on .0 ∙ at .inv .3, on .1 ∙ at .inv .4, on .2)
 
 same-length : tie.Need-same-length Inv-loop μ-loop
 same-length c = c .before .loop .inv .1
@@ -129,8 +163,12 @@ take-words-spec =
     take-short-way-requires
     loop-less
     loop-again
+    after-word-requires
     plan-for-requires
     enum-told
+    enum-told-2
+    enum-told-3
+    set-fault-requires
     settle-without-work-requires
     loop-less-2
     loop-again-2
