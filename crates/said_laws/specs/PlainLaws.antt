@@ -14,6 +14,8 @@ use Rattle.grounds.specs.declared.Verdict.{Verdict}
 use Rattle.grounds.specs.declared.Verdict.the-variants.{Accepted, Refused}
 use Rattle.grounds.specs.Grounds.{number}
 use Rattle.board.specs.declared.Board.{Board}
+use Rattle.board.specs.declared.Fault.{Fault}
+use Rattle.board.specs.declared.Fault.the-variants.{NoFault, FaultAt}
 use Rattle.board.specs.declared.Place.{Place}
 use Rattle.board.specs.declared.Phase.{Phase}
 use Rattle.board.specs.declared.Phase.the-variants.{Rest, Due, Waiting, Upper}
@@ -50,7 +52,7 @@ use Rattle.refusal_text.specs.RefusalText.{refusedAt, unclearText}
 use Rattle.request_text.specs.RequestText.{outcomeText, eachWord, usedText, readingText}
 use Rattle.replies.specs.ReplyText.{packetText, haltedText, capturedText, eventText, breakpointText, bytesText}
 use Rattle.state_line.specs.StateText.{Field, fieldsText, statusFields, debugFields, dataFields, addressFields, controlFields, syncFields}
-use Rattle.state_line.specs.StateText.{registersText, phaseText, chainText, placeText, stateText}
+use Rattle.state_line.specs.StateText.{registersText, phaseText, chainText, placeText, faultText, stateText}
 use Rattle.pod_lines.specs.declared.Taken.{Taken}
 use Rattle.pod_lines.specs.declared.Taken.the-variants.{Count, TooMany, NotAllNumbers}
 use Rattle.pod_lines.specs.Taking.{values, counted, taken}
@@ -211,12 +213,16 @@ place-plain : (p : Place) → Plain (placeText p)
 place-plain p =
     phase-plain (p .phase) and chain-plain (p .chain) and letters " pointer=" refl and hex 5 (p .pointer) and letters " next=" refl and hex 5 (p .next)
 
+fault-plain : (fault : Fault) → Plain (faultText fault)
+fault-plain NoFault = record { bytes = refl }
+fault-plain (FaultAt first) = letters " fault=" refl and hex 8 first
+
 state-spoken : (b : Board) (p : Place) → Spoken (stateText b p)
 unfolding stateText
 state-spoken b p =
     record {
       some = omega arith;
-      plain = letters "state " refl and registers-plain b and fields-plain (syncFields (b .status .sync)) refl and place-plain p;
+      plain = letters "state " refl and registers-plain b and fields-plain (syncFields (b .status .sync)) refl and place-plain p and fault-plain (b .fault);
     }
 
 -- the other lines of the board's

@@ -11,6 +11,8 @@ use Rattle.grounds.specs.declared.Verdict.{Verdict}
 use Rattle.grounds.specs.declared.Verdict.the-variants.{Accepted, Refused}
 use Rattle.grounds.specs.Grounds.{number}
 use Rattle.board.specs.declared.Board.{Board}
+use Rattle.board.specs.declared.Fault.{Fault}
+use Rattle.board.specs.declared.Fault.the-variants.{NoFault, FaultAt}
 use Rattle.board.specs.declared.Place.{Place}
 use Rattle.board.specs.declared.Phase.{Phase}
 use Rattle.board.specs.declared.Phase.the-variants.{Rest, Due, Waiting, Upper}
@@ -51,7 +53,7 @@ use Rattle.text.specs.NumberTextLaws.{digits-length, number-length, decimal-len
 use Rattle.refusal_text.specs.RefusalText.{refusedAt}
 use Rattle.request_text.specs.RequestText.{outcomeText, eachWord, readingText}
 use Rattle.replies.specs.ReplyText.{packetText, capturedText, eventText, breakpointText, bytesText}
-use Rattle.state_line.specs.StateText.{bitOf, registersText, phaseText, chainText, stateText}
+use Rattle.state_line.specs.StateText.{bitOf, registersText, phaseText, chainText, faultText, stateText}
 use Rattle.answers.specs.declared.Bench.{Bench}
 use Rattle.answers.specs.Bench.{start, access}
 use Rattle.answers.specs.Said.{madeText, bytesPutText, peekedText, packetOutcome}
@@ -107,13 +109,17 @@ chain-length Off = refl
 chain-length Dumping = refl
 chain-length Filling = refl
 
+fault-length : (fault : Fault) → length (faultText fault) ≤ 16
+fault-length NoFault = omega arith
+fault-length (FaultAt first) = simp length-append (omega (arith, digits-length 16 8 first))
+
 state-length : (b : Board) (p : Place) → length (stateText b p) ≤ 1024
 unfolding stateText
 state-length b p =
     let sync = digits-length 16 1 (bitOf (b .status .sync)) in
     let pointer = digits-length 16 5 (p .pointer) in
     let next = digits-length 16 5 (p .next) in
-    simp length-append (omega (arith, registers-length b, sync, phase-length (p .phase), chain-length (p .chain), pointer, next))
+    simp length-append (omega (arith, registers-length b, sync, phase-length (p .phase), chain-length (p .chain), pointer, next, fault-length (b .fault)))
 
 made-length : (v : Verdict) → length (madeText v) ≤ 64
 made-length Accepted = omega arith

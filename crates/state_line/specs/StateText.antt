@@ -6,6 +6,8 @@ use mathlib.Core.List.{List, [], _∷_, _++_}
 use lib.ListN.{getD}
 use Rattle.board.specs.declared.Board.{Board}
 use Rattle.board.specs.declared.Debug.{Debug}
+use Rattle.board.specs.declared.Fault.{Fault}
+use Rattle.board.specs.declared.Fault.the-variants.{NoFault, FaultAt}
 use Rattle.board.specs.declared.Place.{Place}
 use Rattle.board.specs.declared.Phase.{Phase}
 use Rattle.board.specs.declared.Phase.the-variants.{Rest, Due, Waiting, Upper}
@@ -126,5 +128,10 @@ placeText p =
     ++ ascii " next="
     ++ hexText 5 (p .next)
 
+-- [4] "gains ` fault=ADDRESS` (eight hexadecimal digits) or ` fault=none` at its end"
+abbrev pub faultText : Fault → List ℕ
+faultText NoFault = ascii " fault=none"
+faultText (FaultAt first) = ascii " fault=" ++ hexText 8 first
+
 unfoldable pub stateText : Board → Place → List ℕ
-stateText b p = ascii "state " ++ registersText b ++ fieldsText (syncFields (b .status .sync)) ++ placeText p
+stateText b p = ascii "state " ++ registersText b ++ fieldsText (syncFields (b .status .sync)) ++ placeText p ++ faultText (b .fault)

@@ -2,11 +2,12 @@
 ghost use mathlib.Core.Path.{_≡_};
 ghost use Rattle.text.specs.Text.{Puts};
 ghost use Rattle.state_line.specs.StateText.{bitOf, fieldsText, statusFields, debugFields, dataFields, addressFields, controlFields, syncFields};
-ghost use Rattle.state_line.specs.StateText.{registersText, phaseText, chainText, placeText, stateText};
+ghost use Rattle.state_line.specs.StateText.{registersText, phaseText, chainText, placeText, faultText, stateText};
 ghost use Rattle.state_line.specs.StateTextMirror.{markText, nextAfter, formText};
 use board::Board;
 use board::Chain;
 use board::Debug;
+use board::Fault;
 use board::Phase;
 use board::Place;
 
@@ -201,11 +202,25 @@ fn put_place(text: &mut [u8], at: usize, place: Place) -> usize
     text::put_hex(text, at, place.next, 5)
 }
 
+fn put_fault(text: &mut [u8], at: usize, fault: Fault) -> usize
+    ensures { λ r. ⌜ Puts (now (text .entry)) at (faultText fault) (now (text .exit)) r ⌝ }
+{
+    match fault {
+        Fault::NoFault => text::put_text(text, at, b" fault=none"),
+        Fault::FaultAt(first) => {
+            let at = text::put_text(text, at, b" fault=");
+            text::put_hex(text, at, first, 8)
+        }
+    }
+}
+
 pub fn put_state(text: &mut [u8], board: Board, place: Place) -> usize
     ensures { λ r. ⌜ Puts (now (text .entry)) 0 (stateText board place) (now (text .exit)) r ⌝ }
 {
     let at = text::put_text(text, 0, b"state ");
     let at = put_registers(text, at, board);
     let at = put_sync(text, at, board.status.sync);
-    put_place(text, at, place)
+    let at = put_place(text, at, place);
+    let fault = board.fault;
+    put_fault(text, at, fault)
 }

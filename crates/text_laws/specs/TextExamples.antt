@@ -7,6 +7,7 @@ use Rattle.readings.specs.declared.Outcome.the-variants.{Value, BusError}
 use Rattle.readings.specs.declared.Reading.the-variants.{Ended, NotYet}
 use Rattle.port.specs.declared.Outcome.the-variants.{Reply}
 use Rattle.firing.specs.declared.Captured.the-variants.{Nothing, Pc}
+use Rattle.board.specs.declared.Fault.the-variants.{FaultAt}
 use Rattle.board.specs.Board.{freshBoard, freshPlace}
 use Rattle.csr.specs.Csr.{csrValue}
 use Rattle.text.specs.Text.{ascii}
@@ -15,7 +16,7 @@ use Rattle.refusal_text.specs.RefusalText.{refusedAt, refusedText}
 use Rattle.request_text.specs.RequestText.{wordsText, readingText, exchangeText}
 use Rattle.text.specs.ListingText.{headText, itemText}
 use Rattle.replies.specs.ReplyText.{packetText, seenText, pressedText, peekText}
-use Rattle.state_line.specs.StateText.{registersText, stateText}
+use Rattle.state_line.specs.StateText.{registersText, faultText, stateText}
 
 pub record Shown : Type 0 where
   pub thirty-two-bits : numberText 0xFFFFFFFF ≡ ascii "FFFFFFFF"
@@ -40,7 +41,8 @@ pub record Shown : Type 0 where
       ++ ascii "dbr=00000000 dbmr=00000000 d0=00000000 d1=00000000 d2=00000000 d3=00000000 d4=00000000 d5=00000000 d6=00000000 d7=00000000 "
       ++ ascii "a0=00000000 a1=00000000 a2=00000000 a3=00000000 a4=00000000 a5=00000000 a6=00000000 a7=00000000 "
       ++ ascii "cacr=00000000 acr0=00000000 acr1=00000000 vbr=00000000 macsr=00000000 mask=00000000 acc=00000000 sr=00000000 pc=00000000 "
-      ++ ascii "rambar=00000000 sync=0 phase=rest chain=none pointer=00000 next=0FFFF"
+      ++ ascii "rambar=00000000 sync=0 phase=rest chain=none pointer=00000 next=0FFFF fault=none"
+  pub at-address-zero : faultText (FaultAt 0) ≡ ascii " fault=00000000"
 
 pub shown : Shown
 unfolding digitText digitsText widthFrom freshBoard freshPlace csrValue registersText stateText
@@ -63,4 +65,5 @@ shown =
       a-head = refl;
       an-item = refl;
       fresh = refl;
+      at-address-zero = refl;
     }
