@@ -1,0 +1,4 @@
+pub mod PortBeforeLaws
+pub mod ForgottenLaws
+pub mod KeptNumberLaws
+pub mod KeptAtRestLaws

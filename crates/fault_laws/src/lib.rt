@@ -1,0 +1,1 @@
+// The address that was not there, over histories: no code.
