@@ -84,6 +84,8 @@ pub struct Board {
     pub(crate) pointer: u32,
     /// The held next reply.
     pub(crate) next: u32,
+    /// The lowest address that was not there, as long as it is kept (02, [4]).
+    pub(crate) fault: Option<u32>,
 }
 
 impl Board {
@@ -113,6 +115,7 @@ impl Board {
             chain: Chain::None,
             pointer: 0,
             next: crate::packets::COMPLETE,
+            fault: None,
         })
     }
 
@@ -122,6 +125,11 @@ impl Board {
 
     pub fn is_halted(&self) -> bool {
         self.halted
+    }
+
+    /// The lowest address that the last access to memory did not find. It is kept until the next command word other than NOP.
+    pub fn fault(&self) -> Option<u32> {
+        self.fault
     }
 
     pub(crate) fn bstat(&self) -> u32 {

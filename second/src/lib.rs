@@ -22,4 +22,4 @@ pub mod stored;
 pub mod talk;
 pub mod trace;
 pub mod visit;
-mod work;
+pub mod work;

@@ -72,7 +72,12 @@ impl Board {
     }
 
     fn take_command_word(&mut self, memory: &mut [u8], packet: u32) {
-        match self.accept(packet) {
+        let command = self.accept(packet);
+        // 02, [4]: kept "until the next command word other than NOP"; an illegal word and one with C are such words.
+        if command != Some(Command::Nop) {
+            self.fault = None;
+        }
+        match command {
             None => self.refuse_command(),
             Some(command) => {
                 if !matches!(command, Command::Nop | Command::Dump(_) | Command::Fill(_)) {
@@ -137,6 +142,7 @@ impl Board {
         self.phase = Phase::Rest;
     }
 
+    /// Memory or a control register that isn't there.
     pub(crate) fn close_with_bus_error(&mut self) {
         self.chain = Chain::None;
         self.close(BUS_ERROR);

@@ -3,6 +3,7 @@
 use crate::board::{bstat, csr, Board, Chain, Phase};
 use crate::command::{control_place, Command, DebugRegister, Size};
 use crate::packets::COMPLETE;
+use std::ops::Range;
 
 impl Board {
     /// Two result words: the upper first, then the port rests with the lower.
@@ -83,27 +84,35 @@ impl Board {
 
     /// READ or DUMP.
     fn fetch(&mut self, memory: &[u8], size: Size, address: u32) {
-        let aligned = size.align(address);
-        let Some(bytes) = span(aligned, size).and_then(|span| memory.get(span)) else {
-            return self.close_with_bus_error();
-        };
-        let value = bytes.iter().fold(0, |value, &b| value << 8 | u32::from(b));
-        self.pointer = aligned.wrapping_add(size.bytes());
-        self.chain = Chain::Dump;
-        self.close_with_data(size, value);
+        match access(memory.len(), size, address) {
+            Ok(place) => {
+                let value = memory[place].iter().fold(0, |value, &b| value << 8 | u32::from(b));
+                self.pointer = size.align(address).wrapping_add(size.bytes());
+                self.chain = Chain::Dump;
+                self.close_with_data(size, value);
+            }
+            Err(missing) => self.close_with_fault(missing),
+        }
     }
 
     /// WRITE or FILL.
     fn store(&mut self, memory: &mut [u8], size: Size, address: u32, data: u32) {
-        let aligned = size.align(address);
-        let Some(bytes) = span(aligned, size).and_then(|span| memory.get_mut(span)) else {
-            return self.close_with_bus_error();
-        };
-        let unused = 4 - bytes.len();
-        bytes.copy_from_slice(&data.to_be_bytes()[unused..]);
-        self.pointer = aligned.wrapping_add(size.bytes());
-        self.chain = Chain::Fill;
-        self.close(COMPLETE);
+        match access(memory.len(), size, address) {
+            Ok(place) => {
+                let unused = 4 - place.len();
+                memory[place].copy_from_slice(&data.to_be_bytes()[unused..]);
+                self.pointer = size.align(address).wrapping_add(size.bytes());
+                self.chain = Chain::Fill;
+                self.close(COMPLETE);
+            }
+            Err(missing) => self.close_with_fault(missing),
+        }
+    }
+
+    /// The memory access found a byte that isn't there, and its address is kept.
+    fn close_with_fault(&mut self, missing: u32) {
+        self.fault = Some(missing);
+        self.close_with_bus_error();
     }
 
     fn clear_csr_by_reading(&mut self) {
@@ -134,8 +143,14 @@ impl Board {
     }
 }
 
-/// The bytes of an access, or none where they run past the addresses of this machine.
-fn span(aligned: u32, size: Size) -> Option<std::ops::Range<usize>> {
-    let start = aligned as usize;
-    Some(start..start.checked_add(size.bytes() as usize)?)
+/// The place of an access in a memory of `length` bytes at address 0, or the lowest address of the access that isn't there.
+pub fn access(length: usize, size: Size, address: u32) -> Result<Range<usize>, u32> {
+    let is_there = |address: u32| (address as usize) < length;
+    // Aligned, no access passes the last of all addresses.
+    let first = size.align(address);
+    let last = first + (size.bytes() - 1);
+    if is_there(last) {
+        return Ok(first as usize..last as usize + 1);
+    }
+    Err((first..last).find(|&address| !is_there(address)).unwrap_or(last))
 }

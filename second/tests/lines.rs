@@ -380,7 +380,7 @@ fn the_fresh_state() {
             "state w=0 halted=1 csr=01100000 tdr=00000000 aatr=0005 baar=05 pbr=00000000 pbmr=00000000 abhr=00000000 \
              ablr=00000000 dbr=00000000 dbmr=00000000 {registers}cacr=00000000 acr0=00000000 acr1=00000000 \
              vbr=00000000 macsr=00000000 mask=00000000 acc=00000000 sr=00000000 pc=00000000 rambar=00000000 sync=0 \
-             phase=rest chain=none pointer=00000 next=0FFFF"
+             phase=rest chain=none pointer=00000 next=0FFFF fault=none"
         )
     );
 }

@@ -143,6 +143,10 @@ impl Bench {
         });
         fields.push(format!("pointer={:05X}", board.pointer));
         fields.push(format!("next={:05X}", board.next));
+        fields.push(match board.fault {
+            Some(address) => format!("fault={address:08X}"),
+            None => "fault=none".to_string(),
+        });
         format!("state {}", fields.join(" "))
     }
 }
