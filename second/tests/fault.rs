@@ -5,7 +5,7 @@ use common::Desk;
 use second::board::Board;
 use second::check::output_for;
 use second::command::Size;
-use second::random::{stand_in_script, Rng};
+use second::random::{stand_in_script, talk_script, Rng};
 use second::work::access;
 
 const BUS_ERROR: u32 = 0x10001;
@@ -518,4 +518,26 @@ fn random_scripts_by_their_account() {
 fn field(state: &str, name: &str) -> String {
     let fields = || state.split(' ');
     fields().find_map(|field| field.strip_prefix(name)?.strip_prefix('=')).expect(name).to_string()
+}
+
+/// The scripts often ask for the state soon after a bus error, by far not only right after it.
+#[test]
+fn random_scripts_show_it() {
+    for (program, scripts) in [
+        ("stand_in", (0..20).map(|seed| stand_in_script(&mut Rng::new(seed), 700)).collect::<Vec<_>>()),
+        ("talk", (0..20).map(|seed| talk_script(&mut Rng::new(seed), 400)).collect()),
+    ] {
+        let (mut lines, mut kept, mut none) = (0, 0, 0);
+        for script in scripts {
+            let mut desk = Desk::new(program);
+            for line in script.iter().flat_map(|line| line.split(|&byte| byte == b'\r')) {
+                let Some(answer) = desk.say_bytes(line) else { continue };
+                lines += 1;
+                if answer.starts_with("state ") {
+                    *(if answer.ends_with(" fault=none") { &mut none } else { &mut kept }) += 1;
+                }
+            }
+        }
+        assert!(kept * 100 > lines && none > kept, "{program}: {lines} lines, {kept} with an address, {none} without");
+    }
 }

@@ -2,6 +2,7 @@
 
 mod aim;
 mod breakpoints;
+mod fault;
 mod from;
 mod gateway;
 mod marks;

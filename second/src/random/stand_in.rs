@@ -2,6 +2,7 @@
 
 use super::aim::{command, legal_word, memory_length, odd_word};
 use super::breakpoints::{breakpoint_setup, event, is_armed};
+use super::fault::stand_in_fault;
 use super::noise::{bench_line, noise};
 use super::Rng;
 use crate::desk::StandIn;
@@ -42,7 +43,7 @@ fn step(rng: &mut Rng, writer: &mut Writer<StandIn>) {
     if writer.memory_length() > 65_536 && rng.once_in(3) {
         writer.say(format!("memory {:X}", rng.below(65_537)));
     }
-    match rng.below(104) {
+    match rng.below(116) {
         0..=44 => send_command(rng, writer),
         45..=49 => {
             for words in breakpoint_setup(rng) {
@@ -64,6 +65,7 @@ fn step(rng: &mut Rng, writer: &mut Writer<StandIn>) {
             let wide = rng.pick(&[0x2_0000, 0x2_0001, 0x3_0000, 0xFFFF_FFFF, 0x8000_0000]);
             writer.packet(wide);
         }
+        103..=114 => stand_in_fault(rng, writer),
         _ => begin(rng, writer),
     }
 }
@@ -74,7 +76,7 @@ fn send_command(rng: &mut Rng, writer: &mut Writer<StandIn>) {
 }
 
 /// Sends the words of a command, one in `spoil` of them spoilt, and goes on until the port rests, mostly.
-fn send(rng: &mut Rng, writer: &mut Writer<StandIn>, words: &[u32], spoil: u32) {
+pub fn send(rng: &mut Rng, writer: &mut Writer<StandIn>, words: &[u32], spoil: u32) {
     for &word in words {
         if rng.once_in(spoil) {
             match rng.below(4) {

@@ -2,6 +2,7 @@
 
 use super::aim::memory_length;
 use super::breakpoints::{debug_value, event, is_armed};
+use super::fault::talk_fault;
 use super::noise::{bench_line, noise};
 use super::pod::request;
 use super::Rng;
@@ -30,7 +31,7 @@ fn step(rng: &mut Rng, writer: &mut Writer<Talk>) {
         writer.say(format!("memory {:X}", rng.below(65_537)));
     }
     let length = writer.memory_length();
-    match rng.below(104) {
+    match rng.below(109) {
         0..=39 => {
             // Ground 13 comes before ground 3.
             let wild = if length > 65_536 { 2 } else { 24 };
@@ -65,6 +66,7 @@ fn step(rng: &mut Rng, writer: &mut Writer<Talk>) {
             let line = request(rng, length, 24);
             writer.say(noise(rng, line.as_bytes()));
         }
+        103..=107 => talk_fault(rng, writer),
         _ => begin(rng, writer),
     }
 }

@@ -7,6 +7,7 @@ mod conversations;
 mod drops;
 mod events;
 mod every_word;
+mod fault;
 mod firing;
 mod gateway;
 mod illegal;
@@ -48,6 +49,7 @@ pub fn all() -> Vec<Stored> {
     stored.extend(drops::all());
     stored.extend(illegal::all());
     stored.extend(every_word::all());
+    stored.extend(fault::all());
     stored.extend(sequences::all());
     stored.extend(events::all());
     stored.extend(firing::all());
