@@ -10,6 +10,7 @@ use Rattle.grounds.specs.Grounds.{ifAccepted}
 use Rattle.board.specs.State.{State as PortState, stateOf}
 use Rattle.step.specs.Step as port
 use Rattle.port.specs.Packet.{packetVerdict}
+use Rattle.halting.specs.declared.Mark.{Mark}
 use Rattle.trigger.specs.declared.Event.{Event}
 use Rattle.groups.specs.declared.Bus.the-variants.{Idle, Carries}
 use Rattle.bus.specs.Events.{boardAfterEvent, boardAfterBreakpoint}
@@ -47,12 +48,13 @@ abbrev pub stepped : ℕ → Bench → List ℕ → Left
 stepped word bench m =
     withState bench (ifAccepted (packetVerdict (portState bench m) word) (port.stepped (portState bench m) word) (portState bench m))
 
--- "`event PC` or `event PC ADDRESS ATTRIBUTE DATA`"
-abbrev pub start : ℕ → Event
-start pc = record { pc = pc; bus = Idle }
+-- "`event PC` or `event PC ADDRESS ATTRIBUTE DATA`", and the mark of [6]
+abbrev pub start : ℕ → Mark → Event
+start pc mark = record { pc = pc; bus = Idle; mark = mark }
 
-abbrev pub access : ℕ → ℕ → ℕ → ℕ → Event
-access pc address attribute lanes = record { pc = pc; bus = Carries (record { address = address; attribute = attribute % 256; lanes = lanes }) }
+abbrev pub access : ℕ → ℕ → ℕ → ℕ → Mark → Event
+access pc address attribute lanes mark =
+    record { pc = pc; bus = Carries (record { address = address; attribute = attribute % 256; lanes = lanes }); mark = mark }
 
 abbrev pub seen : Event → Bench → Bench
 seen event bench = benchOf (boardAfterEvent (bench .board) (bench .place) event) (bench .place) (bench .lent)
@@ -65,8 +67,8 @@ leaves line (Make w) bench m = left (ifAccepted (makingVerdict w) (benchOf (fres
 leaves line (Memory n) bench m = left (benchOf (bench .board) (bench .place) n) (sets m 0 (zeros n))
 leaves line (Bytes address from count) bench m = left bench (bytesPut line from count address (bench .lent) m)
 leaves line (Packet word) bench m = overLent (stepped word) bench m
-leaves line (EventLine pc) bench m = left (seen (start pc) bench) m
-leaves line (EventWithAccess pc address attribute lanes) bench m = left (seen (access pc address attribute lanes) bench) m
+leaves line (EventLine pc mark) bench m = left (seen (start pc mark) bench) m
+leaves line (EventWithAccess pc address attribute lanes mark) bench m = left (seen (access pc address attribute lanes mark) bench) m
 leaves line Breakpoint bench m = left (benchOf (boardAfterBreakpoint (bench .board) (bench .place)) (bench .place) (bench .lent)) m
 leaves line (Peek address count) bench m = left bench m
 leaves line State bench m = left bench m

@@ -4,6 +4,7 @@ use board::Place;
 use comparators::BusAccess;
 use grounds::Verdict;
 use groups::Bus;
+use halting::Mark;
 use refusal_text::put_refusal;
 use refusal_text::put_unclear;
 use trigger::Event;
@@ -196,8 +197,8 @@ pub fn tell_state(bench: Bench, text: &mut [u8]) -> Answered
     }
 }
 
-pub fn carrying(pc: u32, address: u32, attribute: u32, lanes: u32) -> Event
-    ensures { λ r. ⌜ r ≡ access pc address attribute lanes ⌝ }
+pub fn carrying(pc: u32, address: u32, attribute: u32, lanes: u32, mark: Mark) -> Event
+    ensures { λ r. ⌜ r ≡ access pc address attribute lanes mark ⌝ }
 {
     Event {
         pc: pc,
@@ -206,6 +207,7 @@ pub fn carrying(pc: u32, address: u32, attribute: u32, lanes: u32) -> Event
             attribute: (attribute % 256) as u8,
             lanes: lanes,
         }),
+        mark: mark,
     }
 }
 

@@ -13,9 +13,10 @@ use Rattle.numbers.specs.declared.Numbers.the-variants.{Zero, One, Two, Three, 
 use Rattle.words.specs.LineWords.{ascii, kindOf, words, lastEnd, same}
 use Rattle.numbers.specs.Numbers.{allDigits, numeral, numbers}
 use Rattle.board_lines.specs.declared.BoardLine.{BoardLine}
-use Rattle.board_lines.specs.declared.BoardLine.the-variants.{Nothing, Make, Memory, Bytes, Packet, Event, EventWithAccess}
+use Rattle.board_lines.specs.declared.BoardLine.the-variants.{Nothing, Make, Memory, Bytes, Packet}
 use Rattle.board_lines.specs.declared.BoardLine.the-variants.{Breakpoint, Peek, State, Unclear}
 use Rattle.words.specs.NameTable.{row, found}
+use Rattle.board_lines.specs.EventLines.{eventLine}
 
 -- "N up to 10010"
 abbrev pub memoryLine : ℕ → BoardLine
@@ -25,37 +26,28 @@ memoryLine n = cond (leb n 0x10010) (Memory n) Unclear
 abbrev pub peekLine : ℕ → ℕ → BoardLine
 peekLine a n = cond (leb 1 n && leb n 0x400) (Peek a n) Unclear
 
--- "ATTRIBUTE one of 8" bits
-abbrev pub eventLine : ℕ → ℕ → ℕ → ℕ → BoardLine
-eventLine pc address attribute lanes = cond (leb attribute 0xFF) (EventWithAccess pc address attribute lanes) Unclear
-
 -- `breakpoint`, `state`
 unfoldable pub boardOfNone : List ℕ → BoardLine
 boardOfNone name = found Unclear name (row (ascii "breakpoint") Breakpoint ∷ row (ascii "state") State ∷ [])
 
--- `make W`, `memory N`, `packet X`, `event PC`
+-- `make W`, `memory N`, `packet X`
 unfoldable pub boardOfOne : List ℕ → ℕ → BoardLine
 boardOfOne name n =
     found Unclear name (row (ascii "make") (Make n)
     ∷ row (ascii "memory") (memoryLine n)
     ∷ row (ascii "packet") (Packet n)
-    ∷ row (ascii "event") (Event n)
     ∷ [])
 
 -- `peek A N`
 unfoldable pub boardOfTwo : List ℕ → ℕ → ℕ → BoardLine
 boardOfTwo name a n = found Unclear name (row (ascii "peek") (peekLine a n) ∷ [])
 
--- `event PC ADDRESS ATTRIBUTE DATA`
-unfoldable pub boardOfFour : List ℕ → ℕ → ℕ → ℕ → ℕ → BoardLine
-boardOfFour name pc address attribute lanes = found Unclear name (row (ascii "event") (eventLine pc address attribute lanes) ∷ [])
-
 abbrev pub boardForm : List ℕ → Numbers → BoardLine
 boardForm name Zero = boardOfNone name
 boardForm name (One n) = boardOfOne name n
 boardForm name (Two a n) = boardOfTwo name a n
 boardForm name (Three a b c) = Unclear
-boardForm name (Four pc address attribute lanes) = boardOfFour name pc address attribute lanes
+boardForm name (Four a b c d) = Unclear
 boardForm name NotNumbers = Unclear
 
 -- "the N bytes HEX (two digits each)": whole bytes, and at least one
@@ -76,7 +68,8 @@ bytesLine close (a ∷ hex ∷ b ∷ more) = Unclear
 
 unfoldable pub boardWords : ℕ → List (List ℕ) → BoardLine
 boardWords close [] = Unclear
-boardWords close (name ∷ rest) = cond (same name (ascii "bytes")) (bytesLine close rest) (boardForm name (numbers rest))
+boardWords close (name ∷ rest) =
+    cond (same name (ascii "bytes")) (bytesLine close rest) (cond (same name (ascii "event")) (eventLine rest) (boardForm name (numbers rest)))
 
 abbrev pub boardAt : LineKind → List ℕ → BoardLine
 boardAt Silent line = Nothing

@@ -1,3 +1,5 @@
+pub mod EventLines
+pub mod EventLineLaws
 pub mod BoardLines
 pub mod BoardLinesUnique
 pub mod BoardLineExamples

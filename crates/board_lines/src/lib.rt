@@ -1,11 +1,14 @@
 // The desk's language: the lines of `stand_in`.
 ghost use mathlib.Core.Path.{_≡_};
 ghost use Rattle.words.specs.LineWords.{words, wordsFrom, lastEnd};
-ghost use Rattle.board_lines.specs.BoardLines.{memoryLine, peekLine, eventLine, boardOfNone, boardOfOne, boardOfTwo, boardOfFour};
+ghost use Rattle.board_lines.specs.BoardLines.{memoryLine, peekLine, boardOfNone, boardOfOne, boardOfTwo};
 ghost use Rattle.board_lines.specs.BoardLines.{boardForm, isHex, hexLine, bytesLine, boardWords, boardLine};
+use halting::Mark;
 use numbers::Numbers;
 use numbers::Numeral;
 use words::LineKind;
+
+mod events;
 
 // A line of `stand_in`.
 pub enum BoardLine {
@@ -16,9 +19,9 @@ pub enum BoardLine {
     // The address, where the digits start in the line, and the count of bytes.
     Bytes(u32, usize, usize),
     Packet(u32),
-    Event(u32),
-    // The PC, and the access: address, attribute and lanes.
-    EventWithAccess(u32, u32, u32, u32),
+    Event(u32, Mark),
+    // The PC, the access (address, attribute and lanes), and the mark.
+    EventWithAccess(u32, u32, u32, u32, Mark),
     Breakpoint,
     Peek(u32, u32),
     State,
@@ -42,15 +45,6 @@ fn peek_line(a: u32, n: u32) -> BoardLine
     }
     if n <= 0x400 {
         return BoardLine::Peek(a, n);
-    }
-    BoardLine::Unclear
-}
-
-fn event_line(pc: u32, address: u32, attribute: u32, lanes: u32) -> BoardLine
-    ensures { λ r. ⌜ r ≡ eventLine pc address attribute lanes ⌝ }
-{
-    if attribute <= 0xFF {
-        return BoardLine::EventWithAccess(pc, address, attribute, lanes);
     }
     BoardLine::Unclear
 }
@@ -79,9 +73,6 @@ fn board_of_one(name: &[u8], n: u32) -> BoardLine
     if words::is_same(name, b"packet") {
         return BoardLine::Packet(n);
     }
-    if words::is_same(name, b"event") {
-        return BoardLine::Event(n);
-    }
     BoardLine::Unclear
 }
 
@@ -94,15 +85,6 @@ fn board_of_two(name: &[u8], a: u32, n: u32) -> BoardLine
     BoardLine::Unclear
 }
 
-fn board_of_four(name: &[u8], pc: u32, address: u32, attribute: u32, lanes: u32) -> BoardLine
-    ensures { λ r. ⌜ r ≡ boardOfFour (now (name .entry)) pc address attribute lanes ⌝ }
-{
-    if words::is_same(name, b"event") {
-        return event_line(pc, address, attribute, lanes);
-    }
-    BoardLine::Unclear
-}
-
 fn read_form(name: &[u8], numbers: Numbers) -> BoardLine
     ensures { λ r. ⌜ r ≡ boardForm (now (name .entry)) numbers ⌝ }
 {
@@ -111,9 +93,7 @@ fn read_form(name: &[u8], numbers: Numbers) -> BoardLine
         Numbers::One(n) => board_of_one(name, n),
         Numbers::Two(a, n) => board_of_two(name, a, n),
         Numbers::Three(_, _, _) => BoardLine::Unclear,
-        Numbers::Four(pc, address, attribute, lanes) => {
-            board_of_four(name, pc, address, attribute, lanes)
-        }
+        Numbers::Four(_, _, _, _) => BoardLine::Unclear,
         Numbers::NotNumbers => BoardLine::Unclear,
     }
 }
@@ -181,6 +161,9 @@ pub fn read_words(line: &[u8]) -> BoardLine
     let stop = words::word_end(line, start);
     if words::is_same(&line[start..stop], b"bytes") {
         return bytes_line(line, stop);
+    }
+    if words::is_same(&line[start..stop], b"event") {
+        return events::event_line(line, stop);
     }
     let numbers = numbers::read_numbers(line, stop);
     read_form(&line[start..stop], numbers)

@@ -1,8 +1,10 @@
 -- Events and firing (01): the answers on paper, each with its refusal number.
 use Prim.Native.Nat.{ℕ}
-use mathlib.Core.Bool.{Bool, false}
+use mathlib.Core.Bool.{Bool, true, false}
 use mathlib.Core.List.{List, [], _∷_}
 use Rattle.grounds.specs.Grounds.{Refusal, refusalOf, noRefusal}
+use Rattle.halting.specs.declared.Halting.{Halting}
+use Rattle.halting.specs.declared.Halting.the-variants.{NoHalt, Halts, Ignored}
 use Rattle.firing.specs.declared.Captured.{Captured}
 use Rattle.firing.specs.declared.Captured.the-variants.{Nothing, Pc}
 use Rattle.bus.specs.declared.EventOutcome as events
@@ -13,18 +15,31 @@ abbrev pub toldCaptured : Captured → List ℕ
 toldCaptured Nothing = []
 toldCaptured (Pc pc) = pc ∷ []
 
--- "level fired (0, 1, 2), halted by it, interrupt asked, PC captured"
+-- [6] where HALT "halts nothing", "the answer says so"; of an event without a mark nothing is said of it
+abbrev pub toldHalting : Halting → List Bool
+toldHalting NoHalt = []
+toldHalting Halts = false ∷ []
+toldHalting Ignored = true ∷ []
+
+-- "level fired (0, 1, 2), halted by it, interrupt asked, PC captured"; [6] whether HALT was ignored
 pub record EventTold : Type 0 where
   pub refusal : Refusal
   pub level : ℕ
   pub halted : Bool
   pub interrupt : Bool
   pub captured : List ℕ
+  pub ignored : List Bool
 
 abbrev pub toldEvent : events.EventOutcome → EventTold
-toldEvent (events.the-variants.Refused g) = record { refusal = refusalOf g; level = 0; halted = false; interrupt = false; captured = [] }
-toldEvent (events.the-variants.Taken s) =
-    record { refusal = noRefusal; level = s .level; halted = s .halted; interrupt = s .interrupt; captured = toldCaptured (s .captured) }
+toldEvent (events.the-variants.Refused g) = record { refusal = refusalOf g; level = 0; halted = false; interrupt = false; captured = []; ignored = [] }
+toldEvent (events.the-variants.Taken s) = record {
+  refusal = noRefusal;
+  level = s .level;
+  halted = s .halted;
+  interrupt = s .interrupt;
+  captured = toldCaptured (s .captured);
+  ignored = toldHalting (s .halting);
+}
 
 -- "the breakpoint input's: the middle two"
 pub record BreakpointTold : Type 0 where

@@ -17,6 +17,8 @@ use Rattle.ranges.specs.Ranges.{inRange, bstatInRange}
 use Rattle.board.specs.Setters.{withStatus, withDebug, withHalted, withTrg, withBkpt, withBstat}
 use Rattle.csr.specs.Csr.{csrValue}
 use Rattle.registers.specs.Registers.{boardAfter, debugLoaded, debugWritten}
+use Rattle.halting.specs.declared.Mark.the-variants.{Absent}
+use Rattle.halting.specs.Halting.{halting}
 use Rattle.trigger.specs.declared.Event.{Event}
 use Rattle.groups.specs.declared.Bus.the-variants.{Idle, Carries}
 use Rattle.comparators.specs.Masks.{agree}
@@ -48,17 +50,17 @@ abbrev after : Board → Event → Board
 after b event = boardAfterEvent b freshPlace event
 
 abbrev pub fired : ℕ → Bool → EventTold
-fired level halts = record { refusal = noRefusal; level = level; halted = halts; interrupt = false; captured = [] }
+fired level halts = record { refusal = noRefusal; level = level; halted = halts; interrupt = false; captured = []; ignored = [] }
 
 -- "P4: PBR 0x1000, PBMR 0xF, TDR 0x40002002, GO: PC 0x1010 doesn't fire, 0x100E does; CSR is 0x24100000."
 abbrev p4Settings : List Setting
 p4Settings = setting Pbr 0x1000 ∷ setting Pbmr 0xF ∷ setting Tdr 0x40002002 ∷ []
 
 abbrev pub p4Outside : Event
-p4Outside = record { pc = 0x1010; bus = Idle }
+p4Outside = record { pc = 0x1010; bus = Idle; mark = Absent }
 
 abbrev pub p4Inside : Event
-p4Inside = record { pc = 0x100E; bus = Idle }
+p4Inside = record { pc = 0x100E; bus = Idle; mark = Absent }
 
 abbrev pub p4Csr : ℕ
 p4Csr = 0x24100000
@@ -87,18 +89,19 @@ pub record P4 (b : Board) : Type 0 where
 
 -- the event that fires nothing changes nothing
 p4-passes : (w : ℕ) → leb w 15 ≡ true → after (p4Set w) p4Outside ≡ p4Set w
-unfolding freshBoard freshPlace inRange bstatInRange agree levelOf pcGroup addressGroup joined fires firedLevel bstatAfter responds firing statusAfter
+unfolding freshBoard freshPlace inRange bstatInRange agree levelOf pcGroup addressGroup joined fires firedLevel bstatAfter responds firing halting statusAfter
     eventVerdict
 p4-passes w allowed = rw allowed
 
 -- the other halts
 p4-fires : (w : ℕ) → leb w 15 ≡ true → after (p4Set w) p4Inside ≡ withStatus (p4Set w) (withBstat (withTrg (withHalted (p4Set w .status) true) true) 2)
-unfolding freshBoard freshPlace inRange bstatInRange agree levelOf pcGroup addressGroup joined fires firedLevel bstatAfter responds firing statusAfter
+unfolding freshBoard freshPlace inRange bstatInRange agree levelOf pcGroup addressGroup joined fires firedLevel bstatAfter responds firing halting statusAfter
     eventVerdict
 p4-fires w allowed = rw allowed
 
 p4-answers : (w : ℕ) → leb w 15 ≡ true → (answered (p4Set w) p4Outside ≡ fired 0 false) × (answered (p4Set w) p4Inside ≡ fired 1 true)
-unfolding freshBoard freshPlace inRange bstatInRange agree levelOf pcGroup addressGroup joined fires firedLevel bstatAfter responds firing seen eventVerdict
+unfolding freshBoard freshPlace inRange bstatInRange agree levelOf pcGroup addressGroup joined fires firedLevel bstatAfter responds firing halting seen
+    eventVerdict
 p4-answers w allowed = (rw allowed, rw allowed)
 
 p4-of-set : (w : ℕ) → leb w 15 ≡ true → P4 (p4Set w)
@@ -131,7 +134,7 @@ p5-set w pbr ablr = refl
 
 -- "an event with PC equal to PBR, address equal to ABLR, attribute 0x05"
 abbrev pub p5Event : ℕ → ℕ → ℕ → Event
-p5Event pbr ablr lanes = record { pc = pbr; bus = Carries (record { address = ablr; attribute = 0x05; lanes = lanes }) }
+p5Event pbr ablr lanes = record { pc = pbr; bus = Carries (record { address = ablr; attribute = 0x05; lanes = lanes }); mark = Absent }
 
 self : (n : ℕ) → eqb n n ≡ true
 self n = eq-eqb n n refl
@@ -139,12 +142,12 @@ self n = eq-eqb n n refl
 module _ (w pbr ablr lanes : ℕ) (allowed : leb w 15 ≡ true) (even : eqb (pbr % 2) 0 ≡ true) where
   p5-one : after (p5Set 1 w pbr ablr) (p5Event pbr ablr lanes) ≡ p5Set 5 w pbr ablr
   unfolding freshBoard freshPlace inRange bstatInRange agree levelOf pcGroup addressMatches attributeAgrees dataEnabled addressGroup joined fires firedLevel
-      bstatAfter responds firing statusAfter eventVerdict
+      bstatAfter responds firing halting statusAfter eventVerdict
   p5-one = rw (allowed, even, self (bitOr pbr 0))
 
   p5-two : after (p5Set 5 w pbr ablr) (p5Event pbr ablr lanes) .status .bstat ≡ 6
   unfolding freshBoard freshPlace inRange bstatInRange agree levelOf pcGroup addressMatches attributeAgrees dataEnabled addressGroup joined fires firedLevel
-      bstatAfter responds firing statusAfter eventVerdict
+      bstatAfter responds firing halting statusAfter eventVerdict
   p5-two = rw (allowed, even, self ablr)
 
 -- "twice it gives BSTAT 5, then 6"

@@ -26,7 +26,7 @@ by-status-alone Accepted b s = refl
 by-status-alone (Refused g) b s = refl
 
 pub event-changes-status-alone : (b : Board) (p : Place) (e : Event) → boardAfterEvent b p e ≡ withStatus b (boardAfterEvent b p e .status)
-event-changes-status-alone b p e = by-status-alone (eventVerdict b p e) b (statusAfter (b .status) (b .debug) (firing (b .status) (b .debug) e))
+event-changes-status-alone b p e = by-status-alone (eventVerdict b p e) b (statusAfter (b .status) (b .debug) e (firing (b .status) (b .debug) e))
 
 pub breakpoint-changes-status-alone : (b : Board) (p : Place) → boardAfterBreakpoint b p ≡ withStatus b (boardAfterBreakpoint b p .status)
 breakpoint-changes-status-alone b p = by-status-alone (breakpointVerdict b p) b (statusPressed (b .status) (pressed (b .status) (b .debug)))
@@ -66,7 +66,7 @@ in-range-by (Refused g) b p s within kept = within
 pub event-keeps-ranges : (b : Board) (p : Place) (e : Event) → inRange b p ≡ true → inRange (boardAfterEvent b p e) p ≡ true
 unfolding statusAfter firing
 event-keeps-ranges b p e within =
-    in-range-by (eventVerdict b p e) b p (statusAfter (b .status) (b .debug) (firing (b .status) (b .debug) e)) within
+    in-range-by (eventVerdict b p e) b p (statusAfter (b .status) (b .debug) e (firing (b .status) (b .debug) e)) within
     (bstat-stays-in-range (firedLevel (b .status .bstat) (b .debug) e) (b .debug .tdr) (b .status .bstat))
 
 pub breakpoint-keeps-ranges : (b : Board) (p : Place) → inRange b p ≡ true → inRange (boardAfterBreakpoint b p) p ≡ true

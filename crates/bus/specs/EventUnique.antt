@@ -1,6 +1,7 @@
 -- Events and the breakpoint input: an outcome is known by what it says on paper, so no second answer fits.
 use Prim.Native.Nat.{ℕ}
 use mathlib.Core.Path.{_≡_, refl, sym, ap, _∙_}
+use mathlib.Core.Bool.{Bool, cond}
 use mathlib.Core.List.{List, [], _∷_}
 use Rattle.grounds.specs.declared.Ground.{Ground}
 use Rattle.grounds.specs.Grounds.{Refusal, refusalOf, noRefusal}
@@ -8,6 +9,8 @@ use Rattle.grounds.specs.GroundLaws.{same-refusal-same-ground, number-is-not-ze
 use Rattle.board.specs.declared.Board.{Board}
 use Rattle.board.specs.declared.Place.{Place}
 use Rattle.trigger.specs.declared.Event.{Event}
+use Rattle.halting.specs.declared.Halting.{Halting}
+use Rattle.halting.specs.declared.Halting.the-variants.{NoHalt, Halts, Ignored}
 use Rattle.firing.specs.declared.Captured.{Captured}
 use Rattle.firing.specs.declared.Captured.the-variants.{Nothing, Pc}
 use Rattle.firing.specs.declared.Seen.{Seen}
@@ -16,7 +19,7 @@ use Rattle.bus.specs.declared.EventOutcome as events
 use Rattle.bus.specs.declared.BreakpointOutcome as breakpoints
 use Rattle.bus.specs.declared.EventAnswer.{EventAnswer}
 use Rattle.bus.specs.declared.BreakpointAnswer.{BreakpointAnswer}
-use Rattle.bus.specs.EventAnswers.{toldCaptured, EventTold, toldEvent, BreakpointTold, toldBreakpoint}
+use Rattle.bus.specs.EventAnswers.{toldCaptured, toldHalting, EventTold, toldEvent, BreakpointTold, toldBreakpoint}
 use Rattle.bus.specs.Events.{EventMeets, BreakpointMeets}
 
 a-refusal-is-told : (g : Ground) → refusalOf g ≡ noRefusal → ⊥
@@ -27,8 +30,15 @@ abbrev capturedBack : List ℕ → Captured
 capturedBack [] = Nothing
 capturedBack (pc ∷ pcs) = Pc pc
 
+abbrev haltingBack : List Bool → Halting
+haltingBack [] = NoHalt
+haltingBack (ignored ∷ more) = cond ignored Ignored Halts
+
+abbrev seenOf : EventTold → Captured → Halting → Seen
+seenOf t captured halting = record { level = t .level; halted = t .halted; interrupt = t .interrupt; captured = captured; halting = halting }
+
 abbrev seenBack : EventTold → Seen
-seenBack t = record { level = t .level; halted = t .halted; interrupt = t .interrupt; captured = capturedBack (t .captured) }
+seenBack t = seenOf t (capturedBack (t .captured)) (haltingBack (t .ignored))
 
 abbrev pressedBack : BreakpointTold → Pressed
 pressedBack t = record { halted = t .halted; interrupt = t .interrupt }
@@ -37,8 +47,16 @@ captured-back : (c : Captured) → capturedBack (toldCaptured c) ≡ c
 captured-back Nothing = refl
 captured-back (Pc pc) = refl
 
+halting-back : (h : Halting) → haltingBack (toldHalting h) ≡ h
+halting-back NoHalt = refl
+halting-back Halts = refl
+halting-back Ignored = refl
+
 seen-back : (s : Seen) → seenBack (toldEvent (events.the-variants.Taken s)) ≡ s
-seen-back s = ap (λ (c : Captured). record { level = s .level; halted = s .halted; interrupt = s .interrupt; captured = c }) (captured-back (s .captured))
+seen-back s =
+    let told = toldEvent (events.the-variants.Taken s) in
+    ap (λ (c : Captured). seenOf told c (haltingBack (toldHalting (s .halting)))) (captured-back (s .captured))
+    ∙ ap (λ (h : Halting). seenOf told (s .captured) h) (halting-back (s .halting))
 
 pub told-event-unique : (o q : events.EventOutcome) → toldEvent o ≡ toldEvent q → o ≡ q
 told-event-unique (events.the-variants.Refused g) (events.the-variants.Refused h) e =

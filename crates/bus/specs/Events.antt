@@ -58,7 +58,8 @@ abbrev pub eventOutcome : Board → Place → Event → events.EventOutcome
 eventOutcome b p event = eventOutcomeBy (eventVerdict b p event) (seen (b .status) (b .debug) event (firing (b .status) (b .debug) event))
 
 abbrev pub boardAfterEvent : Board → Place → Event → Board
-boardAfterEvent b p event = ifAccepted (eventVerdict b p event) (withStatus b (statusAfter (b .status) (b .debug) (firing (b .status) (b .debug) event))) b
+boardAfterEvent b p event =
+    ifAccepted (eventVerdict b p event) (withStatus b (statusAfter (b .status) (b .debug) event (firing (b .status) (b .debug) event))) b
 
 abbrev pub breakpointOutcome : Board → Place → breakpoints.BreakpointOutcome
 breakpointOutcome b p = breakpointOutcomeBy (breakpointVerdict b p) (pressed (b .status) (b .debug))

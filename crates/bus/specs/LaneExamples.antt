@@ -13,6 +13,8 @@ use Rattle.board.specs.Board.{freshBoard, freshPlace}
 use Rattle.board.specs.RegisterBits.{bit}
 use Rattle.ranges.specs.Ranges.{inRange, bstatInRange}
 use Rattle.registers.specs.Registers.{debugLoaded, debugWritten}
+use Rattle.halting.specs.declared.Mark.the-variants.{Absent}
+use Rattle.halting.specs.Halting.{halting}
 use Rattle.trigger.specs.declared.Event.{Event}
 use Rattle.groups.specs.declared.Bus.the-variants.{Carries}
 use Rattle.comparators.specs.Masks.{agree}
@@ -34,7 +36,7 @@ abbrev pub technician : ℕ → List Setting
 technician address = setting Dbr 0 ∷ setting Dbmr 0 ∷ setting Ablr address ∷ setting Aatr 0x00A5 ∷ setting Tdr 0x40002204 ∷ []
 
 abbrev pub byteRead : ℕ → ℕ → ℕ → Event
-byteRead pc address lanes = record { pc = pc; bus = Carries (record { address = address; attribute = 0xA5; lanes = lanes }) }
+byteRead pc address lanes = record { pc = pc; bus = Carries (record { address = address; attribute = 0xA5; lanes = lanes }); mark = Absent }
 
 abbrev board : ℕ → ℕ → Board
 board w address = afterSettings (technician address) (freshBoard w)
@@ -43,7 +45,7 @@ board w address = afterSettings (technician address) (freshBoard w)
 pub technician-does-not-fire : (w pc lanes : ℕ) → leb w 15 ≡ true → eqb (pc % 2) 0 ≡ true
     → toldEvent (eventOutcome (board w 1) freshPlace (byteRead pc 1 lanes)) ≡ fired 0 false
 unfolding freshBoard freshPlace debugLoaded debugWritten inRange bstatInRange levelOf agree pcGroup addressMatches attributeAgrees dataEnabled someSet
-    comparator carriesAll carriedLanes byteLanes addressGroup joined fires firedLevel bstatAfter responds firing seen eventVerdict
+    comparator carriesAll carriedLanes byteLanes addressGroup joined fires firedLevel bstatAfter responds firing halting seen eventVerdict
 technician-does-not-fire w pc lanes allowed even = rw (allowed, even)
 
 -- of a byte at address 1 the lowest lane read as zero
@@ -67,5 +69,5 @@ pub carried-fires : (w : ℕ) → leb w 15 ≡ true
     → (toldEvent (eventOutcome (board w 3) freshPlace (byteRead 0x1000 3 0x11223300)) ≡ fired 1 true)
     × (toldEvent (eventOutcome (board w 3) freshPlace (byteRead 0x1000 3 0x11223301)) ≡ fired 0 false)
 unfolding freshBoard freshPlace debugLoaded debugWritten inRange bstatInRange levelOf agree pcGroup addressMatches attributeAgrees dataEnabled someSet
-    comparator carriesAll carriedLanes byteLanes addressGroup joined fires firedLevel bstatAfter responds firing seen eventVerdict
+    comparator carriesAll carriedLanes byteLanes addressGroup joined fires firedLevel bstatAfter responds firing halting seen eventVerdict
 carried-fires w allowed = (rw allowed, rw allowed)

@@ -1,6 +1,8 @@
 pub mod EventAnswers
 pub mod Events
 pub mod EventLaws
+pub mod UnmarkedLaws
+pub mod HaltLaws
 pub mod ArmingLaws
 pub mod ClearedBitLaws
 pub mod EventUnique

@@ -44,7 +44,7 @@ pub fn take_event(board: Board, place: Place, event: Event) -> EventAnswer
             let debug = board.debug;
             let fired = firing::fire(status, debug, event);
             let answer = firing::see(status, debug, event, fired);
-            let after = firing::status_after(status, debug, fired);
+            let after = firing::status_after(status, debug, event, fired);
             let mut b = board;
             b.status = after;
             EventAnswer {

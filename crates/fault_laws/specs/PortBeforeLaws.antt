@@ -90,7 +90,7 @@ module _ (b : Board) (p : Place) (f : Fault) where
 
   pub event-leaves : (e : Event) → withFault (boardAfterEvent b p e) f ≡ boardAfterEvent (withFault b f) p e
   unfolding eventVerdict inRange
-  event-leaves e = status-by (eventVerdict b p e) (statusAfter (b .status) (b .debug) (firing (b .status) (b .debug) e))
+  event-leaves e = status-by (eventVerdict b p e) (statusAfter (b .status) (b .debug) e (firing (b .status) (b .debug) e))
 
   pub breakpoint-leaves : withFault (boardAfterBreakpoint b p) f ≡ boardAfterBreakpoint (withFault b f) p
   unfolding breakpointVerdict inRange

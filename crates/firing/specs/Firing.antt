@@ -1,10 +1,12 @@
--- Events and firing (01): what a firing gives, SSM, and a pending SYNC_PC.
+-- Events and firing (01, amended by [6] of 02): what a firing gives, SSM, HALT, and a pending SYNC_PC.
 use Prim.Native.Nat.{ℕ, _/_, _%_, _^_}
 use mathlib.Core.Bool.{Bool, false, cond, not, _&&_, _||_}
 use lib.Dec.{eqb}
 use Rattle.board.specs.declared.Status.{Status}
 use Rattle.board.specs.declared.Debug.{Debug}
-use Rattle.board.specs.Setters.{withHalted, withTrg, withBstat, withSync}
+use Rattle.board.specs.Setters.{withHalted, withTrg, withHalt, withBstat, withSync}
+use Rattle.halting.specs.declared.Halting.{Halting}
+use Rattle.halting.specs.Halting.{halting, haltsItself}
 use Rattle.trigger.specs.declared.Event.{Event}
 use Rattle.board.specs.RegisterBits.{bit}
 use Rattle.trigger.specs.Levels.{levelTwo}
@@ -45,18 +47,39 @@ firing s d event = firingOf (firedLevel (s .bstat) d event) (d .tdr) (s .bstat)
 abbrev pub ssm : Debug → Bool
 ssm d = bit 4 (d .csr)
 
--- "SSM halts after each event"
-abbrev pub halted : Debug → Firing → Bool
-halted d f = f .halts || ssm d
+-- UHE is bit 10 (the chapter)
+abbrev pub uhe : Debug → Bool
+uhe d = bit 10 (d .csr)
+
+-- [6] what becomes of the event's HALT
+abbrev pub haltOf : Debug → Event → Halting
+haltOf d event = halting (event .mark) (uhe d)
+
+abbrev pub haltedItself : Debug → Event → Bool
+haltedItself d event = haltsItself (haltOf d event)
+
+-- "SSM halts after each event"; [6] HALT "halts the processor after the event"
+abbrev pub halted : Debug → Event → Firing → Bool
+halted d event f = f .halts || (ssm d || haltedItself d event)
 
 -- "A pending SYNC_PC hands out the next event's PC."
 abbrev pub captured : Bool → ℕ → Captured
 captured sync pc = cond sync (Pc pc) Nothing
 
--- "An event's answer: level fired (0, 1, 2), halted by it, interrupt asked, PC captured"
+-- "An event's answer: level fired (0, 1, 2), halted by it, interrupt asked, PC captured"; [6] where HALT "halts nothing", "the answer says so"
 unfoldable pub seen : Status → Debug → Event → Firing → Seen
-seen s d event f = record { level = f .level; halted = halted d f; interrupt = f .interrupts; captured = captured (s .sync) (event .pc) }
+seen s d event f = record {
+  level = f .level;
+  halted = halted d event f;
+  interrupt = f .interrupts;
+  captured = captured (s .sync) (event .pc);
+  halting = haltOf d event;
+}
 
--- "its halt sets TRG"; SSM sets no flag; SYNC_PC is no longer pending
-unfoldable pub statusAfter : Status → Debug → Firing → Status
-statusAfter s d f = withSync (withBstat (withTrg (withHalted s (halted d f)) (s .trg || f .halts)) (f .bstat)) false
+-- "its halt sets TRG"; SSM sets no flag; [6] HALT "sets CSR[HALT]", "both flags may be set"
+abbrev pub flagged : Status → Debug → Event → Firing → Status
+flagged s d event f = withHalt (withTrg s (s .trg || f .halts)) (s .halt || haltedItself d event)
+
+-- SYNC_PC is no longer pending
+unfoldable pub statusAfter : Status → Debug → Event → Firing → Status
+statusAfter s d event f = withSync (withBstat (withHalted (flagged s d event f) (halted d event f)) (f .bstat)) false

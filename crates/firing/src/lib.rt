@@ -1,9 +1,10 @@
 // What a firing and the breakpoint input give, and what they leave of the status (01, "Events and firing").
 ghost use mathlib.Core.Path.{_≡_};
-ghost use Rattle.firing.specs.Firing.{bstatAfter, responds, firingOf, firing, ssm, captured, seen, statusAfter};
+ghost use Rattle.firing.specs.Firing.{bstatAfter, responds, firingOf, firing, ssm, haltOf, captured, seen, statusAfter};
 ghost use Rattle.firing.specs.Breakpoint.{bkd, pressed, statusPressed};
 use board::Debug;
 use board::Status;
+use halting::Halting;
 use trigger::Event;
 
 // The PC that a pending SYNC_PC hands out.
@@ -26,6 +27,7 @@ pub struct Seen {
     pub halted: bool,
     pub interrupt: bool,
     pub captured: Captured,
+    pub halting: Halting,
 }
 
 // What the breakpoint input is answered.
@@ -83,6 +85,13 @@ fn is_ssm(debug: Debug) -> bool
     debug.csr / 0x10 % 2 == 1
 }
 
+fn judge_halt(debug: Debug, event: Event) -> Halting
+    ensures { λ r. ⌜ r ≡ haltOf debug event ⌝ }
+{
+    let mark = event.mark;
+    halting::judge(mark, debug.csr / 0x400 % 2 == 1)
+}
+
 fn capture(sync: bool, pc: u32) -> Captured
     ensures { λ r. ⌜ r ≡ captured sync pc ⌝ }
 {
@@ -96,22 +105,28 @@ pub fn see(status: Status, debug: Debug, event: Event, fired: Firing) -> Seen
     ensures { λ r. ⌜ r ≡ seen status debug event fired ⌝ }
 {
     let single = is_ssm(debug);
+    let halting = judge_halt(debug, event);
+    let itself = halting::is_halting(halting);
     let pc = capture(status.sync, event.pc);
     Seen {
         level: fired.level,
-        halted: fired.halts | single,
+        halted: fired.halts | (single | itself),
         interrupt: fired.interrupts,
         captured: pc,
+        halting: halting,
     }
 }
 
-pub fn status_after(status: Status, debug: Debug, fired: Firing) -> Status
-    ensures { λ r. ⌜ r ≡ statusAfter status debug fired ⌝ }
+pub fn status_after(status: Status, debug: Debug, event: Event, fired: Firing) -> Status
+    ensures { λ r. ⌜ r ≡ statusAfter status debug event fired ⌝ }
 {
     let single = is_ssm(debug);
+    let halting = judge_halt(debug, event);
+    let itself = halting::is_halting(halting);
     let mut s = status;
-    s.halted = fired.halts | single;
+    s.halted = fired.halts | (single | itself);
     s.trg = status.trg | fired.halts;
+    s.halt = status.halt | itself;
     s.bstat = fired.bstat;
     s.sync = false;
     s

@@ -23,8 +23,9 @@ said line (Make w) bench m = madeText (makingVerdict w)
 said line (Memory n) bench m = memoryText n
 said line (Bytes address from count) bench m = bytesPutText (fits address count (bench .lent)) count
 said line (Packet word) bench m = packetText (packetOutcome word bench (take (bench .lent) m))
-said line (EventLine pc) bench m = eventText (eventOutcome (bench .board) (bench .place) (start pc))
-said line (EventWithAccess pc address attribute lanes) bench m = eventText (eventOutcome (bench .board) (bench .place) (access pc address attribute lanes))
+said line (EventLine pc mark) bench m = eventText (eventOutcome (bench .board) (bench .place) (start pc mark))
+said line (EventWithAccess pc address attribute lanes mark) bench m =
+    eventText (eventOutcome (bench .board) (bench .place) (access pc address attribute lanes mark))
 said line Breakpoint bench m = breakpointText (breakpointOutcome (bench .board) (bench .place))
 said line (Peek address count) bench m = peekedText (fits address count (bench .lent)) m address count
 said line State bench m = stateText (bench .board) (bench .place)

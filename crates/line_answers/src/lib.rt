@@ -29,17 +29,18 @@ pub fn answer_line(
             answers::put_bytes(line, address, start, count, bench, memory, text)
         }
         BoardLine::Packet(word) => answers::packet_line(word, bench, memory, text),
-        BoardLine::Event(pc) => answers::watch(
+        BoardLine::Event(pc, mark) => answers::watch(
             Event {
                 pc: pc,
                 bus: Bus::Idle,
+                mark: mark,
             },
             bench,
             text,
         ),
-        BoardLine::EventWithAccess(pc, address, attribute, lanes) => {
+        BoardLine::EventWithAccess(pc, address, attribute, lanes, mark) => {
             answers::watch(
-                answers::carrying(pc, address, attribute, lanes),
+                answers::carrying(pc, address, attribute, lanes, mark),
                 bench,
                 text,
             )

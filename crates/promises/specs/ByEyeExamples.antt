@@ -16,6 +16,7 @@ use Rattle.registers.specs.Registers.{debugLoaded, debugWritten}
 use Rattle.plan.specs.Plan.{workAfter, collected, begun, continued}
 use Rattle.step.specs.Step.{planFor, replyNow, stepped}
 use Rattle.port.specs.Packet.{packetVerdict}
+use Rattle.halting.specs.Halting.{halting}
 use Rattle.trigger.specs.declared.Event.{Event}
 use Rattle.comparators.specs.Masks.{agree}
 use Rattle.comparators.specs.Comparators.{dataEnabled}
@@ -125,7 +126,7 @@ p5-by-packets w pbr ablr lanes small narrow-pbr narrow-ablr even =
 pub by-eye : ByEye
 unfolding freshBoard freshPlace inRange bstatInRange fetched stored decoded decodedWord csrValue bstatRead debugLoaded debugWritten controlIndex controlFetched
     controlWritten workAfter collected begun continued planFor replyNow stepped packetVerdict agree levelOf pcGroup addressMatches attributeAgrees
-    dataEnabled addressGroup joined fires firedLevel bstatAfter responds firing seen statusAfter eventVerdict givesOwn afterCycle carriedInto value
+    dataEnabled addressGroup joined fires firedLevel bstatAfter responds firing halting seen statusAfter eventVerdict givesOwn afterCycle carriedInto value
     itemsAt itemsBefore items tooLong earliest endsInside tooShort judgedFrom listing handed after finds
 by-eye = record {
   p1 = refl;

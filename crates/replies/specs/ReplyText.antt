@@ -3,6 +3,8 @@ use Prim.Native.Nat.{ℕ, zero, suc}
 use mathlib.Core.Bool.{Bool}
 use mathlib.Core.List.{List, [], _++_}
 use lib.ListN.{getD}
+use Rattle.halting.specs.declared.Halting.{Halting}
+use Rattle.halting.specs.declared.Halting.the-variants.{NoHalt, Halts, Ignored}
 use Rattle.firing.specs.declared.Captured.{Captured}
 use Rattle.firing.specs.declared.Captured.the-variants.{Nothing, Pc}
 use Rattle.firing.specs.declared.Seen.{Seen}
@@ -31,9 +33,17 @@ abbrev pub capturedText : Captured → List ℕ
 capturedText Nothing = ascii " pc none"
 capturedText (Pc pc) = ascii " pc " ++ hexText 8 pc
 
+-- [6] "The answer to a line with a mark gains ` ignored 1` where HALT halted nothing, ` ignored 0` otherwise"
+abbrev pub haltingText : Halting → List ℕ
+haltingText NoHalt = []
+haltingText Halts = ascii " ignored 0"
+haltingText Ignored = ascii " ignored 1"
+
 -- "`event level L halted H interrupt I pc P`"
 abbrev pub seenText : Seen → List ℕ
-seenText seen = ascii "event level " ++ hexText 1 (seen .level) ++ haltedText (seen .halted) (seen .interrupt) ++ capturedText (seen .captured)
+seenText seen =
+    ascii "event level " ++ hexText 1 (seen .level) ++ haltedText (seen .halted) (seen .interrupt) ++ capturedText (seen .captured)
+    ++ haltingText (seen .halting)
 
 abbrev pub eventText : EventOutcome → List ℕ
 eventText (event.Refused ground) = refusedText ground

@@ -3,12 +3,14 @@ ghost use mathlib.Core.Path.{_≡_};
 ghost use Prim.Native.Nat.{_+_};
 ghost use lib.ListN.{getD};
 ghost use Rattle.text.specs.Text.{Puts};
-ghost use Rattle.replies.specs.ReplyText.{packetText, haltedText, capturedText, seenText, eventText, pressedText, breakpointText, bytesText, peekText};
+ghost use Rattle.replies.specs.ReplyText.{packetText, haltedText, capturedText, haltingText, seenText};
+ghost use Rattle.replies.specs.ReplyText.{eventText, pressedText, breakpointText, bytesText, peekText};
 use bus::BreakpointOutcome;
 use bus::EventOutcome;
 use firing::Captured;
 use firing::Pressed;
 use firing::Seen;
+use halting::Halting;
 use port::Outcome;
 use refusal_text::put_refusal;
 
@@ -45,14 +47,26 @@ fn put_captured(text: &mut [u8], at: usize, captured: Captured) -> usize
     }
 }
 
+fn put_halting(text: &mut [u8], at: usize, halting: Halting) -> usize
+    ensures { λ r. ⌜ Puts (now (text .entry)) at (haltingText halting) (now (text .exit)) r ⌝ }
+{
+    match halting {
+        Halting::NoHalt => at,
+        Halting::Halts => text::put_text(text, at, b" ignored 0"),
+        Halting::Ignored => text::put_text(text, at, b" ignored 1"),
+    }
+}
+
 fn put_seen(text: &mut [u8], seen: Seen) -> usize
     ensures { λ r. ⌜ Puts (now (text .entry)) 0 (seenText seen) (now (text .exit)) r ⌝ }
 {
     let captured = seen.captured;
+    let halting = seen.halting;
     let at = text::put_text(text, 0, b"event level ");
     let at = text::put_hex(text, at, seen.level, 1);
     let at = put_halted(text, at, seen.halted, seen.interrupt);
-    put_captured(text, at, captured)
+    let at = put_captured(text, at, captured);
+    put_halting(text, at, halting)
 }
 
 pub fn put_event(text: &mut [u8], outcome: EventOutcome) -> usize

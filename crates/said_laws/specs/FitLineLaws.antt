@@ -13,11 +13,15 @@ use Rattle.numbers.specs.declared.Numeral.{Numeral}
 use Rattle.numbers.specs.declared.Numeral.the-variants.{Value, NoNumber}
 use Rattle.numbers.specs.declared.Numbers.{Numbers}
 use Rattle.numbers.specs.declared.Numbers.the-variants.{Zero, One, Two, Three, Four, NotNumbers}
-use Rattle.numbers.specs.Numbers.{numeral, numbers}
+use Rattle.numbers.specs.Numbers.{numeral, more, numbers}
+use Rattle.halting.specs.declared.Privilege.the-variants.{User, Supervisor}
+use Rattle.halting.specs.declared.Mark.{Mark}
+use Rattle.halting.specs.declared.Mark.the-variants.{Absent, Halt}
 use Rattle.board_lines.specs.declared.BoardLine.{BoardLine}
 use Rattle.board_lines.specs.declared.BoardLine.the-variants.{Nothing, Make, Memory, Bytes, Packet, Event as EventLine}
 use Rattle.board_lines.specs.declared.BoardLine.the-variants.{EventWithAccess, Breakpoint, Peek, State, Unclear}
-use Rattle.board_lines.specs.BoardLines.{memoryLine, peekLine, eventLine, boardOfNone, boardOfOne, boardOfTwo, boardOfFour, boardForm}
+use Rattle.board_lines.specs.EventLines.{eventForm, haltForm, haltLine, eventFrom, eventLine}
+use Rattle.board_lines.specs.BoardLines.{memoryLine, peekLine, boardOfNone, boardOfOne, boardOfTwo, boardForm}
 use Rattle.board_lines.specs.BoardLines.{isHex, hexLine, bytesLine, boardWords}
 use Rattle.request_lines.specs.declared.Asked.{Asked}
 use Rattle.request_lines.specs.declared.Asked.the-variants.{For, NoRequest}
@@ -47,8 +51,8 @@ Fit (Make w) = Unit
 Fit (Memory n) = Unit
 Fit (Bytes address from count) = Unit
 Fit (Packet word) = Unit
-Fit (EventLine pc) = Unit
-Fit (EventWithAccess pc address attribute lanes) = Unit
+Fit (EventLine pc mark) = Unit
+Fit (EventWithAccess pc address attribute lanes mark) = Unit
 Fit Breakpoint = Unit
 Fit (Peek address count) = count ≤ 0x400
 Fit State = Unit
@@ -57,8 +61,32 @@ Fit Unclear = Unit
 memory-fit : (n : ℕ) → Fit (memoryLine n)
 memory-fit n = one-of Fit (leb n 0x10010) (Memory n) Unclear tt tt
 
-event-fit : (pc address attribute lanes : ℕ) → Fit (eventLine pc address attribute lanes)
-event-fit pc address attribute lanes = one-of Fit (leb attribute 0xFF) (EventWithAccess pc address attribute lanes) Unclear tt tt
+event-form-fit : (ns : Numbers) (mark : Mark) → Fit (eventForm ns mark)
+event-form-fit Zero mark = tt
+event-form-fit (One pc) mark = tt
+event-form-fit (Two a b) mark = tt
+event-form-fit (Three a b c) mark = tt
+event-form-fit (Four pc address attribute lanes) mark = one-of Fit (leb attribute 0xFF) (EventWithAccess pc address attribute lanes mark) Unclear tt tt
+event-form-fit NotNumbers mark = tt
+
+halt-fit : (before : Numbers) (ws : List (List ℕ)) → Fit (haltLine before ws)
+unfolding haltForm
+halt-fit before [] = tt
+halt-fit before (privilege ∷ []) =
+    of-found Fit Unclear privilege
+    (row (ascii "user") (eventForm before (Halt User)) ∷ row (ascii "supervisor") (eventForm before (Halt Supervisor)) ∷ [])
+    tt
+    (event-form-fit before (Halt User), (event-form-fit before (Halt Supervisor), tt))
+halt-fit before (privilege ∷ word ∷ ws) = tt
+
+event-from-fit : (before : Numbers) (ws : List (List ℕ)) → Fit (eventFrom before ws)
+event-from-fit before [] = event-form-fit before Absent
+event-from-fit before (word ∷ ws) =
+    one-of Fit (same word (ascii "halt")) (haltLine before ws) _ (halt-fit before ws) (event-from-fit (more before (numeral word)) ws)
+
+event-fit : (ws : List (List ℕ)) → Fit (eventLine ws)
+unfolding eventLine
+event-fit ws = event-from-fit Zero ws
 
 peek-fit : (a n : ℕ) → Fit (peekLine a n)
 peek-fit a n = by-test (leb 1 n && leb n 0x400) refl
@@ -68,17 +96,16 @@ peek-fit a n = by-test (leb 1 n && leb n 0x400) refl
     by-test false e = tt
 
 form-fit : (name : List ℕ) (ns : Numbers) → Fit (boardForm name ns)
-unfolding boardOfNone boardOfOne boardOfTwo boardOfFour
+unfolding boardOfNone boardOfOne boardOfTwo
 form-fit name Zero = of-found Fit Unclear name (row (ascii "breakpoint") Breakpoint ∷ row (ascii "state") State ∷ []) tt (tt, (tt, tt))
 form-fit name (One n) =
     of-found Fit Unclear name
-    (row (ascii "make") (Make n) ∷ row (ascii "memory") (memoryLine n) ∷ row (ascii "packet") (Packet n) ∷ row (ascii "event") (EventLine n) ∷ [])
+    (row (ascii "make") (Make n) ∷ row (ascii "memory") (memoryLine n) ∷ row (ascii "packet") (Packet n) ∷ [])
     tt
-    (tt, (memory-fit n, (tt, (tt, tt))))
+    (tt, (memory-fit n, (tt, tt)))
 form-fit name (Two a n) = of-found Fit Unclear name (row (ascii "peek") (peekLine a n) ∷ []) tt (peek-fit a n, tt)
 form-fit name (Three a b c) = tt
-form-fit name (Four pc address attribute lanes) =
-    of-found Fit Unclear name (row (ascii "event") (eventLine pc address attribute lanes) ∷ []) tt (event-fit pc address attribute lanes, tt)
+form-fit name (Four a b c d) = tt
 form-fit name NotNumbers = tt
 
 hex-fit : (close : ℕ) (address : Numeral) (hex : List ℕ) → Fit (hexLine close address hex)
@@ -96,7 +123,9 @@ pub board-fit : (close : ℕ) (ws : List (List ℕ)) → Fit (boardWords close w
 unfolding boardWords
 board-fit close [] = tt
 board-fit close (name ∷ rest) =
-    one-of Fit (same name (ascii "bytes")) (bytesLine close rest) (boardForm name (numbers rest)) (bytes-fit close rest) (form-fit name (numbers rest))
+    one-of Fit (same name (ascii "bytes")) (bytesLine close rest) (cond (same name (ascii "event")) (eventLine rest) (boardForm name (numbers rest)))
+    (bytes-fit close rest)
+    (one-of Fit (same name (ascii "event")) (eventLine rest) (boardForm name (numbers rest)) (event-fit rest) (form-fit name (numbers rest)))
 
 -- and of talk's
 abbrev pub TalkFit : TalkLine → Type 0
@@ -113,8 +142,8 @@ without-fit (Make w) f = tt
 without-fit (Memory n) f = tt
 without-fit (Bytes address from count) f = tt
 without-fit (Packet word) f = tt
-without-fit (EventLine pc) f = tt
-without-fit (EventWithAccess pc address attribute lanes) f = tt
+without-fit (EventLine pc mark) f = tt
+without-fit (EventWithAccess pc address attribute lanes mark) f = tt
 without-fit Breakpoint f = tt
 without-fit (Peek address count) f = f
 without-fit State f = tt

@@ -26,6 +26,8 @@ use Rattle.port.specs.declared.Outcome.{Outcome}
 use Rattle.port.specs.declared.Outcome.the-variants.{Reply, Refusing}
 use Rattle.firing.specs.declared.Captured.{Captured}
 use Rattle.firing.specs.declared.Captured.the-variants.{Nothing as NoPc, Pc}
+use Rattle.halting.specs.declared.Halting.{Halting}
+use Rattle.halting.specs.declared.Halting.the-variants.{NoHalt, Halts, Ignored}
 use Rattle.bus.specs.declared.EventOutcome.{EventOutcome}
 use Rattle.bus.specs.declared.EventOutcome.the-variants as event
 use Rattle.bus.specs.declared.BreakpointOutcome.{BreakpointOutcome}
@@ -50,7 +52,7 @@ use Rattle.text.specs.Text.{ascii, flagText}
 use Rattle.text.specs.NumberText.{digitText, digitsText, hexText, numberText, decimalText, width}
 use Rattle.refusal_text.specs.RefusalText.{refusedAt, unclearText}
 use Rattle.request_text.specs.RequestText.{outcomeText, eachWord, usedText, readingText}
-use Rattle.replies.specs.ReplyText.{packetText, haltedText, capturedText, eventText, breakpointText, bytesText}
+use Rattle.replies.specs.ReplyText.{packetText, haltedText, capturedText, haltingText, eventText, breakpointText, bytesText}
 use Rattle.state_line.specs.StateText.{Field, fieldsText, statusFields, debugFields, dataFields, addressFields, controlFields, syncFields}
 use Rattle.state_line.specs.StateText.{registersText, phaseText, chainText, placeText, faultText, stateText}
 use Rattle.pod_lines.specs.declared.Taken.{Taken}
@@ -161,12 +163,18 @@ captured-plain : (captured : Captured) → Plain (capturedText captured)
 captured-plain NoPc = record { bytes = refl }
 captured-plain (Pc pc) = letters " pc " refl and hex 8 pc
 
+halting-plain : (halting : Halting) → Plain (haltingText halting)
+halting-plain NoHalt = record { bytes = refl }
+halting-plain Halts = record { bytes = refl }
+halting-plain Ignored = record { bytes = refl }
+
 event-spoken : (o : EventOutcome) → Spoken (eventText o)
 event-spoken (event.Refused ground) = refused-spoken ground 0
 event-spoken (event.Taken seen) =
     record {
       some = omega arith;
-      plain = letters "event level " refl and hex 1 (seen .level) and halted-plain (seen .halted) (seen .interrupt) and captured-plain (seen .captured);
+      plain = letters "event level " refl and hex 1 (seen .level) and halted-plain (seen .halted) (seen .interrupt) and captured-plain (seen .captured)
+          and halting-plain (seen .halting);
     }
 
 breakpoint-spoken : (o : BreakpointOutcome) → Spoken (breakpointText o)
@@ -248,9 +256,9 @@ board-spoken line (Make w) bench m f = made-spoken (makingVerdict w)
 board-spoken line (Memory n) bench m f = record { some = omega arith; plain = letters "memory " refl and numeral n }
 board-spoken line (Bytes address from count) bench m f = bytes-put-spoken (fits address count (bench .lent)) count
 board-spoken line (Packet word) bench m f = packet-spoken (packetOutcome word bench (take (bench .lent) m))
-board-spoken line (EventLine pc) bench m f = event-spoken (eventOutcome (bench .board) (bench .place) (start pc))
-board-spoken line (EventWithAccess pc address attribute lanes) bench m f =
-    event-spoken (eventOutcome (bench .board) (bench .place) (access pc address attribute lanes))
+board-spoken line (EventLine pc mark) bench m f = event-spoken (eventOutcome (bench .board) (bench .place) (start pc mark))
+board-spoken line (EventWithAccess pc address attribute lanes mark) bench m f =
+    event-spoken (eventOutcome (bench .board) (bench .place) (access pc address attribute lanes mark))
 board-spoken line Breakpoint bench m f = breakpoint-spoken (breakpointOutcome (bench .board) (bench .place))
 board-spoken line (Peek address count) bench m f = peeked-spoken (fits address count (bench .lent)) m address count
 board-spoken line State bench m f = state-spoken (bench .board) (bench .place)

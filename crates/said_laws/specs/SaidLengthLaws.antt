@@ -23,6 +23,8 @@ use Rattle.port.specs.declared.Outcome.{Outcome}
 use Rattle.port.specs.declared.Outcome.the-variants.{Reply, Refusing}
 use Rattle.firing.specs.declared.Captured.{Captured}
 use Rattle.firing.specs.declared.Captured.the-variants.{Nothing as NoPc, Pc}
+use Rattle.halting.specs.declared.Halting.{Halting}
+use Rattle.halting.specs.declared.Halting.the-variants.{NoHalt, Halts, Ignored}
 use Rattle.bus.specs.declared.EventOutcome.{EventOutcome}
 use Rattle.bus.specs.declared.EventOutcome.the-variants as event
 use Rattle.bus.specs.declared.BreakpointOutcome.{BreakpointOutcome}
@@ -52,7 +54,7 @@ use Rattle.text.specs.NumberText.{digitsText}
 use Rattle.text.specs.NumberTextLaws.{digits-length, number-length, decimal-length}
 use Rattle.refusal_text.specs.RefusalText.{refusedAt}
 use Rattle.request_text.specs.RequestText.{outcomeText, eachWord, readingText}
-use Rattle.replies.specs.ReplyText.{packetText, capturedText, eventText, breakpointText, bytesText}
+use Rattle.replies.specs.ReplyText.{packetText, capturedText, haltingText, eventText, breakpointText, bytesText}
 use Rattle.state_line.specs.StateText.{bitOf, registersText, phaseText, chainText, faultText, stateText}
 use Rattle.answers.specs.declared.Bench.{Bench}
 use Rattle.answers.specs.Bench.{start, access}
@@ -80,11 +82,17 @@ captured-length : (captured : Captured) → length (capturedText captured) ≤ 1
 captured-length NoPc = omega arith
 captured-length (Pc pc) = simp length-append (omega (arith, digits-length 16 8 pc))
 
+halting-length : (halting : Halting) → length (haltingText halting) ≤ 10
+halting-length NoHalt = omega arith
+halting-length Halts = omega arith
+halting-length Ignored = omega arith
+
 event-length : (o : EventOutcome) → length (eventText o) ≤ 64
 event-length (event.Refused ground) = refused-length ground 0
 event-length (event.Taken seen) =
     let level = digits-length 16 1 (seen .level) in
-    simp length-append (omega (arith, level, flag-length (seen .halted), flag-length (seen .interrupt), captured-length (seen .captured)))
+    let end = captured-length (seen .captured) in
+    simp length-append (omega (arith, level, flag-length (seen .halted), flag-length (seen .interrupt), end, halting-length (seen .halting)))
 
 breakpoint-length : (o : BreakpointOutcome) → length (breakpointText o) ≤ 64
 breakpoint-length (breakpoint.Refused ground) = refused-length ground 0
@@ -141,9 +149,9 @@ said-length line (Make w) bench m f = omega (arith, made-length (makingVerdict w
 said-length line (Memory n) bench m f = simp length-append (omega (arith, number-length n))
 said-length line (Bytes address from count) bench m f = omega (arith, bytes-put-length (fits address count (bench .lent)) count)
 said-length line (Packet word) bench m f = omega (arith, packet-length (packetOutcome word bench (take (bench .lent) m)))
-said-length line (EventLine pc) bench m f = omega (arith, event-length (eventOutcome (bench .board) (bench .place) (start pc)))
-said-length line (EventWithAccess pc address attribute lanes) bench m f =
-    omega (arith, event-length (eventOutcome (bench .board) (bench .place) (access pc address attribute lanes)))
+said-length line (EventLine pc mark) bench m f = omega (arith, event-length (eventOutcome (bench .board) (bench .place) (start pc mark)))
+said-length line (EventWithAccess pc address attribute lanes mark) bench m f =
+    omega (arith, event-length (eventOutcome (bench .board) (bench .place) (access pc address attribute lanes mark)))
 said-length line Breakpoint bench m f = omega (arith, breakpoint-length (breakpointOutcome (bench .board) (bench .place)))
 said-length line (Peek address count) bench m f = peeked-length (fits address count (bench .lent)) m address count f
 said-length line State bench m f = omega (arith, state-length (bench .board) (bench .place))

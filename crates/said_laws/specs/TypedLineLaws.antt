@@ -47,9 +47,9 @@ module _ {line name : List ℕ} {n : ℕ} (typed : OneNumber line name n) where
   not-common = rw (typed .kind, typed .apart)
 
   -- in `stand_in` it is what the name asks of one number
-  pub board-heard : same name (ascii "bytes") ≡ false → boardLine line ≡ boardOfOne name n
+  pub board-heard : same name (ascii "bytes") ≡ false → same name (ascii "event") ≡ false → boardLine line ≡ boardOfOne name n
   unfolding boardLine boardWords
-  board-heard e = rw (typed .kind, typed .apart, e, typed .number)
+  board-heard e f = rw (typed .kind, typed .apart, e, f, typed .number)
 
   -- and in `talk`, where it asks for a request
   pub request-heard : (request : Request) → requestOfOne name n ≡ For request → talkLine line ≡ Ask request
@@ -59,7 +59,8 @@ module _ {line name : List ℕ} {n : ℕ} (typed : OneNumber line name n) where
 -- `packet X`; "Case does not matter"
 pub packet-heard : {line name : List ℕ} {n : ℕ} → OneNumber line name n → same name (ascii "packet") ≡ true → boardLine line ≡ Packet n
 unfolding boardOfOne lower
-packet-heard {line} {name} {n} typed e = board-heard typed (named (ascii "bytes")) ∙ rw (named (ascii "make"), named (ascii "memory"), e)
+packet-heard {line} {name} {n} typed e =
+    board-heard typed (named (ascii "bytes")) (named (ascii "event")) ∙ rw (named (ascii "make"), named (ascii "memory"), e)
   where
     named : (other : List ℕ) → same name other ≡ same (ascii "packet") other
     named other = sym (same-lower name other) ∙ ap (λ (small : List ℕ). same small other) (same-equal name (ascii "packet") e)

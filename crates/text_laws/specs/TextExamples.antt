@@ -6,6 +6,7 @@ use Rattle.grounds.specs.declared.Ground.the-variants.{ReservedPst, StateOutOfR
 use Rattle.readings.specs.declared.Outcome.the-variants.{Value, BusError}
 use Rattle.readings.specs.declared.Reading.the-variants.{Ended, NotYet}
 use Rattle.port.specs.declared.Outcome.the-variants.{Reply}
+use Rattle.halting.specs.declared.Halting.the-variants.{NoHalt, Halts, Ignored}
 use Rattle.firing.specs.declared.Captured.the-variants.{Nothing, Pc}
 use Rattle.board.specs.declared.Fault.the-variants.{FaultAt}
 use Rattle.board.specs.Board.{freshBoard, freshPlace}
@@ -25,9 +26,14 @@ pub record Shown : Type 0 where
   pub a-reply : packetText (Reply 0xBEEF) ≡ ascii "reply 0BEEF"
   pub a-refusal : refusedText StateOutOfRange ≡ ascii "refused 12 at 0"
   pub refused-at-a-cycle : refusedAt ReservedPst 4660 ≡ ascii "refused 8 at 4660"
-  pub an-event : seenText (record { level = 2; halted = true; interrupt = false; captured = Pc 0xC0DE })
+  pub an-event : seenText (record { level = 2; halted = true; interrupt = false; captured = Pc 0xC0DE; halting = NoHalt })
       ≡ ascii "event level 2 halted 1 interrupt 0 pc 0000C0DE"
-  pub no-pc : seenText (record { level = 0; halted = false; interrupt = false; captured = Nothing }) ≡ ascii "event level 0 halted 0 interrupt 0 pc none"
+  pub no-pc : seenText (record { level = 0; halted = false; interrupt = false; captured = Nothing; halting = NoHalt })
+      ≡ ascii "event level 0 halted 0 interrupt 0 pc none"
+  pub halted-itself : seenText (record { level = 0; halted = true; interrupt = false; captured = Pc 0xC0DE; halting = Halts })
+      ≡ ascii "event level 0 halted 1 interrupt 0 pc 0000C0DE ignored 0"
+  pub halted-nothing : seenText (record { level = 0; halted = false; interrupt = false; captured = Nothing; halting = Ignored })
+      ≡ ascii "event level 0 halted 0 interrupt 0 pc none ignored 1"
   pub a-breakpoint : pressedText (record { halted = true; interrupt = false }) ≡ ascii "breakpoint halted 1 interrupt 0"
   pub a-peek : peekText (0 ∷ 0x7F ∷ 0xFF ∷ []) 1 3 ≡ ascii "peek 7FFF00"
   pub three-words : wordsText (0x1980 ∷ 0 ∷ 4 ∷ []) ≡ ascii "words 01980 00000 00004"
@@ -56,6 +62,8 @@ shown =
       refused-at-a-cycle = refl;
       an-event = refl;
       no-pc = refl;
+      halted-itself = refl;
+      halted-nothing = refl;
       a-breakpoint = refl;
       a-peek = refl;
       three-words = refl;

@@ -2,7 +2,7 @@
 use Prim.Native.Nat.{ℕ, _+_, _-_, _*_, _/_, _%_, _^_, _<_}
 use mathlib.Core.Path.{_≡_, refl, ap}
 use mathlib.Core.Bool.{Bool, true, false, cond}
-use mathlib.Core.List.{List}
+use mathlib.Core.List.{List, _++_}
 use native.Mathlib.Omega.{arith}
 use native.Mathlib.Nat.{mod-lt}
 use lib.Dec.{eqb, ltb}
@@ -21,6 +21,8 @@ use Rattle.port.specs.declared.Outcome.the-variants.{Reply, Refusing}
 use Rattle.firing.specs.declared.Captured.{Captured}
 use Rattle.firing.specs.declared.Captured.the-variants.{Nothing, Pc}
 use Rattle.firing.specs.declared.Seen.{Seen}
+use Rattle.halting.specs.declared.Halting.{Halting}
+use Rattle.halting.specs.declared.Halting.the-variants.{NoHalt, Halts, Ignored}
 use Rattle.bus.specs.declared.EventOutcome.{EventOutcome}
 use Rattle.bus.specs.declared.EventOutcome.the-variants as event
 use Rattle.bus.specs.declared.BreakpointOutcome.{BreakpointOutcome}
@@ -29,7 +31,7 @@ use Rattle.numbers.specs.Numbers.{value}
 use Rattle.text.specs.NumberText.{digitText, digitsText, widthFrom}
 use Rattle.refusal_text.specs.RefusalText.{refusedAt}
 use Rattle.request_text.specs.RequestText.{readingText, exchangeText}
-use Rattle.replies.specs.ReplyText.{packetText, capturedText, seenText, eventText, pressedText, breakpointText}
+use Rattle.replies.specs.ReplyText.{packetText, capturedText, haltingText, seenText, eventText, pressedText, breakpointText}
 use Rattle.text_laws.specs.ReadBackLaws.{decimalValue, hex-back, decimal-back}
 
 -- the ground of a refusal, by its number of one or two digits
@@ -162,16 +164,34 @@ digit-no-n d h = by-test (ltb d 10)
 
 -- an event's answer: the PC is `none`, or eight digits
 abbrev pub capturedOf : List ℕ → Captured
-capturedOf text = cond (eqb (getD text 4 0) 110) Nothing (Pc (value (drop 4 text)))
+capturedOf text = cond (eqb (getD text 4 0) 110) Nothing (Pc (value (take 8 (drop 4 text))))
+
+-- what stands behind it of HALT ([6]): nothing, or its tenth byte is the digit
+abbrev pub behindCaptured : List ℕ → List ℕ
+behindCaptured text = drop (cond (eqb (getD text 4 0) 110) 8 12) text
+
+abbrev pub haltingOf : List ℕ → Halting
+haltingOf text = cond (eqb (getD text 9 0) 48) Halts (cond (eqb (getD text 9 0) 49) Ignored NoHalt)
 
 abbrev pub CapturedHeld : Captured → Type 0
 CapturedHeld Nothing = Unit
 CapturedHeld (Pc pc) = pc < 16 ^ 8
 
-captured-back : (captured : Captured) → CapturedHeld captured → capturedOf (capturedText captured) ≡ captured
-unfolding digitsText
-captured-back Nothing held = refl
-captured-back (Pc pc) held = rw (digit-no-n (pc / 16 ^ 7 % 16) (mod-lt (pc / 16 ^ 7) (omega arith))) (ap Pc (hex-back 8 pc held))
+halting-back : (halting : Halting) → haltingOf (haltingText halting) ≡ halting
+halting-back NoHalt = refl
+halting-back Halts = refl
+halting-back Ignored = refl
+
+module _ (halting : Halting) where
+  captured-back : (captured : Captured) → CapturedHeld captured → capturedOf (capturedText captured ++ haltingText halting) ≡ captured
+  unfolding digitsText
+  captured-back Nothing held = refl
+  captured-back (Pc pc) held = rw (digit-no-n (pc / 16 ^ 7 % 16) (mod-lt (pc / 16 ^ 7) (omega arith))) (ap Pc (hex-back 8 pc held))
+
+  behind-captured : (captured : Captured) → haltingOf (behindCaptured (capturedText captured ++ haltingText halting)) ≡ halting
+  unfolding digitsText
+  behind-captured Nothing = halting-back halting
+  behind-captured (Pc pc) = rw (digit-no-n (pc / 16 ^ 7 % 16) (mod-lt (pc / 16 ^ 7) (omega arith))) (halting-back halting)
 
 abbrev pub flagAt : List ℕ → ℕ → Bool
 flagAt text at = eqb (getD text at 0) 49
@@ -183,22 +203,25 @@ seenOf text =
       halted = flagAt text 21;
       interrupt = flagAt text 33;
       captured = capturedOf (drop 34 text);
+      halting = haltingOf (behindCaptured (drop 34 text));
     }
 
 abbrev pub SeenHeld : Seen → Type 0
 SeenHeld seen = (seen .level < 16) × CapturedHeld (seen .captured)
 
-seen-by-flags : (level : ℕ) (halted interrupt : Bool) (captured : Captured) → level < 16 ^ 1 → CapturedHeld captured
-    → seenOf (seenText (record { level = level; halted = halted; interrupt = interrupt; captured = captured }))
-    ≡ record { level = level; halted = halted; interrupt = interrupt; captured = captured }
-unfolding digitsText
-seen-by-flags level true true captured h held = rw (hex-back 1 level h, captured-back captured held)
-seen-by-flags level true false captured h held = rw (hex-back 1 level h, captured-back captured held)
-seen-by-flags level false true captured h held = rw (hex-back 1 level h, captured-back captured held)
-seen-by-flags level false false captured h held = rw (hex-back 1 level h, captured-back captured held)
+module _ (level : ℕ) (captured : Captured) (halting : Halting) (h : level < 16 ^ 1) (held : CapturedHeld captured) where
+  abbrev flagged : Bool → Bool → Seen
+  flagged halted interrupt = record { level = level; halted = halted; interrupt = interrupt; captured = captured; halting = halting }
+
+  seen-by-flags : (halted interrupt : Bool) → seenOf (seenText (flagged halted interrupt)) ≡ flagged halted interrupt
+  unfolding digitsText
+  seen-by-flags true true = rw (hex-back 1 level h, captured-back halting captured held, behind-captured halting captured)
+  seen-by-flags true false = rw (hex-back 1 level h, captured-back halting captured held, behind-captured halting captured)
+  seen-by-flags false true = rw (hex-back 1 level h, captured-back halting captured held, behind-captured halting captured)
+  seen-by-flags false false = rw (hex-back 1 level h, captured-back halting captured held, behind-captured halting captured)
 
 pub seen-back : (seen : Seen) → SeenHeld seen → seenOf (seenText seen) ≡ seen
-seen-back seen held = seen-by-flags (seen .level) (seen .halted) (seen .interrupt) (seen .captured) (held .0) (held .1)
+seen-back seen held = seen-by-flags (seen .level) (seen .captured) (seen .halting) (held .0) (held .1) (seen .halted) (seen .interrupt)
 
 abbrev pub eventOf : List ℕ → EventOutcome
 eventOf text = cond (eqb (getD text 0 0) 114) (event.Refused (refusalOf text)) (event.Taken (seenOf text))

@@ -4,13 +4,15 @@ ghost use Rattle.trigger.specs.Fired.{fires, firedLevel};
 use board::Debug;
 use comparators::Level;
 use groups::Bus;
+use halting::Mark;
 
 pub mod levels;
 
-// One instruction start.
+// One instruction start; the mark tells whether the instruction is HALT.
 pub struct Event {
     pub pc: u32,
     pub bus: Bus,
+    pub mark: Mark,
 }
 
 fn is_fired(level: Level, debug: Debug, event: Event) -> bool

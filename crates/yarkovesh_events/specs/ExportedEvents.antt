@@ -17,6 +17,7 @@ use Rattle.board.specs.Board.{freshBoard, freshPlace}
 use Rattle.registers.specs.Registers.{boardAfter}
 use Rattle.groups.specs.declared.Bus.{Bus}
 use Rattle.groups.specs.declared.Bus.the-variants.{Idle, Carries}
+use Rattle.halting.specs.declared.Mark.the-variants.{Absent}
 use Rattle.trigger.specs.declared.Event.{Event}
 use Rattle.bus.specs.EventAnswers.{EventTold, toldEvent}
 use Rattle.bus.specs.Events.{eventOutcome, boardAfterEvent}
@@ -38,9 +39,9 @@ setUp values b = boardAfter go (writtenFrom registersInOrder 0 values b) 0 0
 abbrev pub busOf : ℕ → ℕ → ℕ → Bus
 busOf attribute address lanes = cond (leb attribute 255) (Carries (record { address = address; attribute = attribute; lanes = lanes })) Idle
 
--- "An event is one instruction start: its PC and perhaps one access"
+-- "An event is one instruction start: its PC and perhaps one access"; four words have no room for a mark
 abbrev pub eventOf : ℕ → ℕ → ℕ → ℕ → Event
-eventOf pc attribute address lanes = record { pc = pc; bus = busOf attribute address lanes }
+eventOf pc attribute address lanes = record { pc = pc; bus = busOf attribute address lanes; mark = Absent }
 
 -- the event whose four words begin at a place
 abbrev pub eventAt : List ℕ → ℕ → Event

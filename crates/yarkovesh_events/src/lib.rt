@@ -18,6 +18,7 @@ use comparators::BusAccess;
 use firing::Captured;
 use grounds::Ground;
 use groups::Bus;
+use halting::Mark;
 use trigger::Event;
 
 fn write(board: Board, register: DebugRegister, value: u32) -> Board
@@ -62,7 +63,11 @@ fn read_event(words: &[u32], at: usize) -> Event
 {
     let pc = words[at];
     let bus = bus_of(words[at + 1], words[at + 2], words[at + 3]);
-    Event { pc: pc, bus: bus }
+    Event {
+        pc: pc,
+        bus: bus,
+        mark: Mark::Absent,
+    }
 }
 
 fn value_if(holds: bool, value: u32) -> u32

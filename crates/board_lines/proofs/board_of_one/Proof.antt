@@ -36,39 +36,9 @@ returns-3 : tie.Need-returns-3
 unfolding boardOfOne
 returns-3 c = rw (← c .before .before .before .before .before .before .before .is-same .ensures, c .before .before .before .before .before .before .if1 .left, ← c .before .before .before .before .is-same2 .ensures, c .before .before .before .if2 .left, ← c .before .is-same3 .ensures, c .if3 .taken)
 
-slice-aggregate-is-same-4 : tie.Need-slice-aggregate-is-same-4
-slice-aggregate-is-same-4 c = search needs
-
-is-same-requires-4 : tie.Need-is-same-requires-4
-is-same-requires-4 c κs = search needs
-
 returns-4 : tie.Need-returns-4
 unfolding boardOfOne
-returns-4 c =
-    rw (
-      ← c .before .before .before .before .before .before .before .before .before .before .is-same .ensures,
-      c .before .before .before .before .before .before .before .before .before .if1 .left,
-      ← c .before .before .before .before .before .before .before .is-same2 .ensures,
-      c .before .before .before .before .before .before .if2 .left,
-      ← c .before .before .before .before .is-same3 .ensures,
-      c .before .before .before .if3 .left,
-      ← c .before .is-same4 .ensures,
-      c .if4 .taken,
-    )
-
-returns-5 : tie.Need-returns-5
-unfolding boardOfOne
-returns-5 c =
-    rw (
-      ← c .before .before .before .before .before .before .before .before .before .before .is-same .ensures,
-      c .before .before .before .before .before .before .before .before .before .if1 .left,
-      ← c .before .before .before .before .before .before .before .is-same2 .ensures,
-      c .before .before .before .before .before .before .if2 .left,
-      ← c .before .before .before .before .is-same3 .ensures,
-      c .before .before .before .if3 .left,
-      ← c .before .is-same4 .ensures,
-      c .if4 .left,
-    )
+returns-4 c = rw (← c .before .before .before .before .before .before .before .is-same .ensures, c .before .before .before .before .before .before .if1 .left, ← c .before .before .before .before .is-same2 .ensures, c .before .before .before .if2 .left, ← c .before .is-same3 .ensures, c .if3 .left)
 
 pub board-of-one-spec : {M : Type 1} → statement M
 board-of-one-spec =
@@ -84,7 +54,4 @@ board-of-one-spec =
     slice-aggregate-is-same-3
     is-same-requires-3
     returns-3
-    slice-aggregate-is-same-4
-    is-same-requires-4
-    returns-4
-    returns-5)
+    returns-4)

@@ -23,14 +23,11 @@ board-of-two-requires c κs = search needs
 enum-told-2 : tie.Need-enum-told-2
 enum-told-2 c = search needs
 
-enum-known-numbers-3 : tie.Need-enum-known-numbers-3
-enum-known-numbers-3 c = search needs
-
-board-of-four-requires : tie.Need-board-of-four-requires
-board-of-four-requires c κs = search needs
-
 enum-told-3 : tie.Need-enum-told-3
 enum-told-3 c = search needs
+
+enum-told-4 : tie.Need-enum-told-4
+enum-told-4 c = search needs
 
 returns : tie.Need-returns
 returns c = rw (c .before .enum-told .given .1, ← c .board-of-none .ensures)
@@ -45,7 +42,7 @@ returns-4 : tie.Need-returns-4
 returns-4 c = search needs
 
 returns-5 : tie.Need-returns-5
-returns-5 c = rw (c .before .before .numbers3 .given .1, ← c .board-of-four .ensures)
+returns-5 c = search needs
 
 returns-6 : tie.Need-returns-6
 returns-6 c = search needs
@@ -61,9 +58,8 @@ read-form-spec =
     enum-known-numbers-2
     board-of-two-requires
     enum-told-2
-    enum-known-numbers-3
-    board-of-four-requires
     enum-told-3
+    enum-told-4
     returns
     returns-2
     returns-3

@@ -21,7 +21,9 @@ part-is-same-start : tie.Need-part-is-same-start
 part-is-same-start c = search needs
 
 part-is-same-end : tie.Need-part-is-same-end
-part-is-same-end c = word-bounds (c .before .before .before .before .args .line .now) 0 (c .before .before .word-start .result) (c .before .before .word-start .ensures) (c .word-end .result) (c .before .if1 .left) (c .word-end .ensures) .2
+part-is-same-end c =
+    let w = c in
+    word-bounds (w .before .before .before .before .args .line .now) 0 (w .before .before .word-start .result) (w .before .before .word-start .ensures) (w .word-end .result) (w .before .if1 .left) (w .word-end .ensures) .2
 
 slice-aggregate-is-same : tie.Need-slice-aggregate-is-same
 slice-aggregate-is-same c = search needs
@@ -35,9 +37,36 @@ bytes-line-requires c κs = search needs
 returns-2 : tie.Need-returns-2
 unfolding boardWords
 returns-2 c =
-    let cut = next-word (c .before .before .before .before .before .before .before .before .before .args .line .now) 0 (c .before .before .before .before .before .before .before .word-start .result) (c .before .before .before .before .before .before .before .word-start .ensures)
-    (c .before .before .before .before .before .word-end .result) (c .before .before .before .before .before .before .if1 .left) (c .before .before .before .before .before .word-end .ensures) in
+    let w = c .before .before .before .before .before in
+    let cut = next-word (w .before .before .before .before .args .line .now) 0 (w .before .before .word-start .result) (w .before .before .word-start .ensures) (w .word-end .result) (w .before .if1 .left) (w .word-end .ensures) in
     rw (cut, ← c .before .before .is-same .ensures, c .before .if2 .taken, ← c .bytes-line .ensures)
+
+sub-is-same-2 : tie.Need-sub-is-same-2
+sub-is-same-2 c = search needs
+
+part-is-same-start-2 : tie.Need-part-is-same-start-2
+part-is-same-start-2 c = search needs
+
+part-is-same-end-2 : tie.Need-part-is-same-end-2
+part-is-same-end-2 c =
+    let w = c .before .before .before .before in
+    word-bounds (w .before .before .before .before .args .line .now) 0 (w .before .before .word-start .result) (w .before .before .word-start .ensures) (w .word-end .result) (w .before .if1 .left) (w .word-end .ensures) .2
+
+slice-aggregate-is-same-2 : tie.Need-slice-aggregate-is-same-2
+slice-aggregate-is-same-2 c = search needs
+
+is-same-requires-2 : tie.Need-is-same-requires-2
+is-same-requires-2 c κs = search needs
+
+event-line-requires : tie.Need-event-line-requires
+event-line-requires c κs = search needs
+
+returns-3 : tie.Need-returns-3
+unfolding boardWords
+returns-3 c =
+    let w = c .before .before .before .before .before .before .before .before .before in
+    let cut = next-word (w .before .before .before .before .args .line .now) 0 (w .before .before .word-start .result) (w .before .before .word-start .ensures) (w .word-end .result) (w .before .if1 .left) (w .word-end .ensures) in
+    rw (cut, ← c .before .before .before .before .before .before .is-same .ensures, c .before .before .before .before .before .if2 .left, ← c .before .before .is-same2 .ensures, c .before .if3 .taken, ← c .event-line .ensures)
 
 read-numbers-requires : tie.Need-read-numbers-requires
 read-numbers-requires c κs = search needs
@@ -50,19 +79,26 @@ part-read-form-start c = search needs
 
 part-read-form-end : tie.Need-part-read-form-end
 part-read-form-end c =
-    word-bounds (c .before .before .before .before .before .before .before .before .before .args .line .now) 0 (c .before .before .before .before .before .before .before .word-start .result) (c .before .before .before .before .before .before .before .word-start .ensures)
-    (c .before .before .before .before .before .word-end .result) (c .before .before .before .before .before .before .if1 .left) (c .before .before .before .before .before .word-end .ensures) .2
+    let w = c .before .before .before .before .before .before .before .before .before in
+    word-bounds (w .before .before .before .before .args .line .now) 0 (w .before .before .word-start .result) (w .before .before .word-start .ensures) (w .word-end .result) (w .before .if1 .left) (w .word-end .ensures) .2
 
 read-form-requires : tie.Need-read-form-requires
 read-form-requires c κs = search needs
 
-returns-3 : tie.Need-returns-3
+returns-4 : tie.Need-returns-4
 unfolding boardWords
-returns-3 c =
-    let cut = next-word (c .before .before .before .before .before .before .before .before .before .before .before .args .line .now) 0 (c .before .before .before .before .before .before .before .before .before .word-start .result)
-    (c .before .before .before .before .before .before .before .before .before .word-start .ensures) (c .before .before .before .before .before .before .before .word-end .result) (c .before .before .before .before .before .before .before .before .if1 .left)
-    (c .before .before .before .before .before .before .before .word-end .ensures) in
-    rw (cut, ← c .before .before .before .before .is-same .ensures, c .before .before .before .if2 .left, ← c .before .before .read-numbers .ensures, ← c .read-form .ensures)
+returns-4 c =
+    let w = c .before .before .before .before .before .before .before .before .before .before .before in
+    let cut = next-word (w .before .before .before .before .args .line .now) 0 (w .before .before .word-start .result) (w .before .before .word-start .ensures) (w .word-end .result) (w .before .if1 .left) (w .word-end .ensures) in
+    rw (
+      cut,
+      ← c .before .before .before .before .before .before .before .before .is-same .ensures,
+      c .before .before .before .before .before .before .before .if2 .left,
+      ← c .before .before .before .before .is-same2 .ensures,
+      c .before .before .before .if3 .left,
+      ← c .before .before .read-numbers .ensures,
+      ← c .read-form .ensures,
+    )
 
 pub read-words-spec : {M : Type 1} → statement M
 read-words-spec =
@@ -78,9 +114,16 @@ read-words-spec =
     is-same-requires
     bytes-line-requires
     returns-2
+    sub-is-same-2
+    part-is-same-start-2
+    part-is-same-end-2
+    slice-aggregate-is-same-2
+    is-same-requires-2
+    event-line-requires
+    returns-3
     read-numbers-requires
     sub-read-form
     part-read-form-start
     part-read-form-end
     read-form-requires
-    returns-3)
+    returns-4)

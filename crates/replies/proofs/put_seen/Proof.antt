@@ -18,15 +18,19 @@ put-halted-requires c κs = search needs
 put-captured-requires : tie.Need-put-captured-requires
 put-captured-requires c κs = search needs
 
+put-halting-requires : tie.Need-put-halting-requires
+put-halting-requires c κs = search needs
+
 same-length : tie.Need-same-length
 same-length c = search needs
 
 returns : tie.Need-returns
 returns c =
-    (c .before .before .before .before .before .before .before .before .before .before .before .before .before .before .put-text .ensures)
-    then (c .before .before .before .before .before .before .before .before .before .before .put-hex .ensures)
-    then (c .before .before .before .before .before .before .put-halted .ensures)
-    then (c .before .before .put-captured .ensures)
+    (c .before .before .before .before .before .before .before .before .before .before .before .before .before .before .before .before .before .before .put-text .ensures)
+    then (c .before .before .before .before .before .before .before .before .before .before .before .before .before .before .put-hex .ensures)
+    then (c .before .before .before .before .before .before .before .before .before .before .put-halted .ensures)
+    then (c .before .before .before .before .before .before .put-captured .ensures)
+    then (c .before .before .put-halting .ensures)
 
 pub put-seen-spec : {M : Type 1} → statement M
 put-seen-spec =
@@ -37,5 +41,6 @@ put-seen-spec =
     put-hex-requires
     put-halted-requires
     put-captured-requires
+    put-halting-requires
     same-length
     returns)

@@ -1,3 +1,4 @@
+use Rattle.halting.specs.declared.Mark.the-variants.{Absent}
 use mathlib.Core.Path.{ap}
 use lib.ListN.{getD}
 use Rattle.groups.specs.declared.Bus.{Bus}
@@ -44,7 +45,7 @@ bus-of-requires c κs = search needs
 returns : tie.Need-returns
 returns c =
     let at = c .before .before .before .before .before .before .args in
-    ap (λ (bus : Bus). record { pc = getD (at .words .now) (at .at) 0; bus = bus }) (c .bus-of .ensures)
+    ap (λ (bus : Bus). record { pc = getD (at .words .now) (at .at) 0; bus = bus; mark = Absent }) (c .bus-of .ensures)
 
 pub read-event-spec : {M : Type 1} → statement M
 read-event-spec =
