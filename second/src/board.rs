@@ -20,6 +20,8 @@ pub mod csr {
     /// HRL is 1: Revision B.
     pub const HRL: u32 = 1 << 20;
     pub const BKD: u32 = 1 << 18;
+    /// HALT halts in user mode too.
+    pub const UHE: u32 = 1 << 10;
     pub const SSM: u32 = 1 << 4;
     /// The bits that a write reaches.
     pub const WRITTEN: u32 = 0x0007_FF70;

@@ -13,11 +13,28 @@ pub struct Access {
     pub data: u32,
 }
 
-/// One instruction start.
+/// The privilege that an instruction runs at.
 #[derive(Clone, Copy, PartialEq, Eq, Debug)]
+pub enum Privilege {
+    User,
+    Supervisor,
+}
+
+/// What an event is marked with (02, [6]).
+#[derive(Clone, Copy, PartialEq, Eq, Debug, Default)]
+pub enum Mark {
+    #[default]
+    Absent,
+    /// The instruction is HALT.
+    Halt(Privilege),
+}
+
+/// One instruction start.
+#[derive(Clone, Copy, PartialEq, Eq, Debug, Default)]
 pub struct Event {
     pub pc: u32,
     pub access: Option<Access>,
+    pub mark: Mark,
 }
 
 /// What an event did.
@@ -28,6 +45,8 @@ pub struct EventAnswer {
     pub halted: bool,
     pub interrupt: bool,
     pub pc: Option<u32>,
+    /// HALT was run and halted nothing; something else may have.
+    pub ignored: bool,
 }
 
 /// What the breakpoint input did.
@@ -130,25 +149,41 @@ impl Board {
         if event.access.is_some_and(|access| access.attribute & SZ == SZ) {
             return Err(Ground::ReservedSize.into());
         }
+        // The breakpoint comes first; neither it nor SSM nor HALT hides another.
         let level = self.fire(&event);
-        let mut halted = false;
-        let mut interrupt = false;
-        if matches!((level, self.bstat()), (1, bstat::LEVEL_1_TRIGGERED) | (2, bstat::LEVEL_2_TRIGGERED)) {
-            match self.tdr >> tdr::RESPONSE_SHIFT {
-                tdr::RESPONSE_HALT => {
-                    halted = true;
-                    self.csr |= csr::TRG;
-                }
-                tdr::RESPONSE_INTERRUPT => interrupt = true,
-                _ => {}
-            }
-        }
-        if self.csr & csr::SSM != 0 {
-            halted = true;
-        }
+        let (triggered, interrupt) = self.respond(level);
+        let (halts, ignored) = self.run_mark(event.mark);
+        let halted = triggered || halts || self.csr & csr::SSM != 0;
         self.halted = halted;
         let captured = std::mem::take(&mut self.sync);
-        Ok(EventAnswer { level, halted, interrupt, pc: captured.then_some(event.pc) })
+        Ok(EventAnswer { level, halted, interrupt, pc: captured.then_some(event.pc), ignored })
+    }
+
+    /// The response to a level that has just fired: whether it halts, and whether it asks an interrupt.
+    fn respond(&mut self, level: u8) -> (bool, bool) {
+        if !matches!((level, self.bstat()), (1, bstat::LEVEL_1_TRIGGERED) | (2, bstat::LEVEL_2_TRIGGERED)) {
+            return (false, false);
+        }
+        match self.tdr >> tdr::RESPONSE_SHIFT {
+            tdr::RESPONSE_HALT => {
+                self.csr |= csr::TRG;
+                (true, false)
+            }
+            tdr::RESPONSE_INTERRUPT => (false, true),
+            _ => (false, false),
+        }
+    }
+
+    /// What the mark does: whether HALT halts, and whether it is ignored.
+    fn run_mark(&mut self, mark: Mark) -> (bool, bool) {
+        match mark {
+            Mark::Absent => (false, false),
+            Mark::Halt(Privilege::User) if self.csr & csr::UHE == 0 => (false, true),
+            Mark::Halt(Privilege::User | Privilege::Supervisor) => {
+                self.csr |= csr::HALT;
+                (true, false)
+            }
+        }
     }
 
     /// Tries the level that BSTAT waits for, moves BSTAT on if it fires, and gives the level fired.

@@ -88,7 +88,7 @@ fn access(attribute: u8, offset: u32, data: u32) -> Option<Access> {
 /// The level that fires; the PC agrees or not.
 fn level_fired(board: &mut Board, pc_agrees: bool, access: Option<Access>) -> u8 {
     let pc = if pc_agrees { PBR } else { PBR + 2 };
-    board.event(Event { pc, access }).unwrap().level
+    board.event(Event { pc, access, ..Event::default() }).unwrap().level
 }
 
 fn fires(setting: Setting, access: Option<Access>) -> bool {

@@ -1,7 +1,7 @@
 //! The lines that `stand_in` and `talk` share: a board, its memory, and what the bench does to them.
 
 use crate::board::{Board, Chain, Phase};
-use crate::events::{Access, Event};
+use crate::events::{Access, Event, Mark, Privilege};
 use crate::line::{bytes, number, number_of_bits};
 use std::fmt::Write;
 
@@ -27,15 +27,7 @@ impl Bench {
             [b"make", w] => self.make(number(w)?),
             [b"memory", n] => self.lend(number(n)?),
             [b"bytes", a, hex] => self.put(number(a)?, &bytes(hex)?),
-            [b"event", pc] => self.event(Event { pc: number(pc)?, access: None }),
-            [b"event", pc, address, attribute, data] => self.event(Event {
-                pc: number(pc)?,
-                access: Some(Access {
-                    address: number(address)?,
-                    attribute: number_of_bits(attribute, 8)? as u8,
-                    data: number(data)?,
-                }),
-            }),
+            [b"event", words @ ..] => self.event(event(words)?),
             [b"breakpoint"] => {
                 let answer = self.board.breakpoint();
                 Some(format!("breakpoint halted {} interrupt {}", u8::from(answer.halted), u8::from(answer.interrupt)))
@@ -78,19 +70,25 @@ impl Bench {
     }
 
     fn event(&mut self, event: Event) -> Option<String> {
-        Some(match self.board.event(event) {
-            Ok(answer) => format!(
-                "event level {} halted {} interrupt {} pc {}",
-                answer.level,
-                u8::from(answer.halted),
-                u8::from(answer.interrupt),
-                match answer.pc {
-                    Some(pc) => format!("{pc:08X}"),
-                    None => "none".to_string(),
-                }
-            ),
-            Err(refusal) => refusal.to_string(),
-        })
+        let answer = match self.board.event(event) {
+            Ok(answer) => answer,
+            Err(refusal) => return Some(refusal.to_string()),
+        };
+        let mut text = format!(
+            "event level {} halted {} interrupt {} pc {}",
+            answer.level,
+            u8::from(answer.halted),
+            u8::from(answer.interrupt),
+            match answer.pc {
+                Some(pc) => format!("{pc:08X}"),
+                None => "none".to_string(),
+            }
+        );
+        // "a line without a mark is answered as before"
+        if event.mark != Mark::Absent {
+            write!(text, " ignored {}", u8::from(answer.ignored)).ok()?;
+        }
+        Some(text)
     }
 
     fn peek(&self, a: u32, n: u32) -> Option<String> {
@@ -154,5 +152,34 @@ impl Bench {
 impl Default for Bench {
     fn default() -> Bench {
         Bench::new()
+    }
+}
+
+/// The event of these words, those behind `event`: PC, an access or none, a mark or none.
+fn event(words: &[&[u8]]) -> Option<Event> {
+    let (numbers, mark) = match words {
+        [numbers @ .., b"halt", privilege] => (numbers, Mark::Halt(privilege_named(privilege)?)),
+        numbers => (numbers, Mark::Absent),
+    };
+    let (pc, access) = match numbers {
+        [pc] => (pc, None),
+        [pc, address, attribute, data] => (
+            pc,
+            Some(Access {
+                address: number(address)?,
+                attribute: number_of_bits(attribute, 8)? as u8,
+                data: number(data)?,
+            }),
+        ),
+        _ => return None,
+    };
+    Some(Event { pc: number(pc)?, access, mark })
+}
+
+fn privilege_named(word: &[u8]) -> Option<Privilege> {
+    match word {
+        b"user" => Some(Privilege::User),
+        b"supervisor" => Some(Privilege::Supervisor),
+        _ => None,
     }
 }
