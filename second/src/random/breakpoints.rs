@@ -1,6 +1,7 @@
 //! Random breakpoint registers, and events near what they hold.
 
 use super::aim::hex;
+use super::halt::mark;
 use super::Rng;
 use crate::board::{bstat, Board};
 
@@ -26,13 +27,7 @@ fn debug_write_to(rng: &mut Rng, n: u32) -> Vec<u32> {
 /// A value for a debug register. Few different ones, so that comparisons often agree.
 pub fn debug_value(rng: &mut Rng, n: u32) -> u32 {
     match n {
-        0x00 => match rng.below(6) {
-            0 => 0x10,
-            1 => 0x4_0000,
-            2 => 0x4_0010,
-            3 => rng.word(),
-            _ => 0,
-        },
+        0x00 => csr_value(rng),
         0x05 => rng.below(0x200),
         0x06 => attribute_trigger(rng),
         0x07 => trigger(rng),
@@ -76,6 +71,23 @@ pub fn debug_value(rng: &mut Rng, n: u32) -> u32 {
         },
         _ => rng.word(),
     }
+}
+
+/// SSM, BKD and UHE, each set or clear, at times with the bits beside UHE; or anything.
+pub fn csr_value(rng: &mut Rng) -> u32 {
+    if rng.once_in(6) {
+        return rng.word();
+    }
+    let mut value = 0;
+    for (bit, often) in [(0x10, 25), (0x4_0000, 30), (0x400, 50)] {
+        if rng.percent(often) {
+            value |= bit;
+        }
+    }
+    if rng.once_in(4) {
+        value |= rng.pick(&[0x200, 0x800, 0xA00]);
+    }
+    value
 }
 
 fn attribute_trigger(rng: &mut Rng) -> u32 {
@@ -149,8 +161,13 @@ pub fn breakpoint_setup(rng: &mut Rng) -> Vec<Vec<u32>> {
     commands
 }
 
-/// An event near what the breakpoint registers hold: agreeing with them, or all but for one field, or only by chance.
+/// An event near what the breakpoint registers hold, at times with a mark.
 pub fn event(rng: &mut Rng, board: &Board) -> String {
+    unmarked_event(rng, board) + mark(rng, 35)
+}
+
+/// An event near what the breakpoint registers hold: agreeing with them, or all but for one field, or only by chance.
+pub fn unmarked_event(rng: &mut Rng, board: &Board) -> String {
     let wanted = board.aatr.to_be_bytes()[1];
     let (mut pc, mut address, mut attribute, mut data) = (board.pbr & !1, board.ablr, wanted, board.dbr);
     match rng.below(8) {

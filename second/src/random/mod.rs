@@ -5,6 +5,7 @@ mod breakpoints;
 mod fault;
 mod from;
 mod gateway;
+mod halt;
 mod marks;
 mod noise;
 mod pod;

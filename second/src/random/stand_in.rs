@@ -3,6 +3,7 @@
 use super::aim::{command, legal_word, memory_length, odd_word};
 use super::breakpoints::{breakpoint_setup, event, is_armed};
 use super::fault::stand_in_fault;
+use super::halt::{near_mark, stand_in_halt};
 use super::noise::{bench_line, noise};
 use super::Rng;
 use crate::desk::StandIn;
@@ -43,14 +44,15 @@ fn step(rng: &mut Rng, writer: &mut Writer<StandIn>) {
     if writer.memory_length() > 65_536 && rng.once_in(3) {
         writer.say(format!("memory {:X}", rng.below(65_537)));
     }
-    match rng.below(116) {
+    match rng.below(120) {
         0..=44 => send_command(rng, writer),
         45..=49 => {
             for words in breakpoint_setup(rng) {
                 send(rng, writer, &words, 200);
             }
         }
-        50..=69 => send_events(rng, writer),
+        50..=63 => send_events(rng, writer),
+        64..=69 => stand_in_halt(rng, writer),
         70..=89 => {
             let line = bench_line(rng, writer.bench());
             writer.say(line);
@@ -65,7 +67,11 @@ fn step(rng: &mut Rng, writer: &mut Writer<StandIn>) {
             let wide = rng.pick(&[0x2_0000, 0x2_0001, 0x3_0000, 0xFFFF_FFFF, 0x8000_0000]);
             writer.packet(wide);
         }
-        103..=114 => stand_in_fault(rng, writer),
+        103..=117 => stand_in_fault(rng, writer),
+        118 => {
+            let line = near_mark(rng, writer.board());
+            writer.say(line);
+        }
         _ => begin(rng, writer),
     }
 }

@@ -3,6 +3,7 @@
 use super::aim::memory_length;
 use super::breakpoints::{debug_value, event, is_armed};
 use super::fault::talk_fault;
+use super::halt::{near_mark, talk_halt};
 use super::noise::{bench_line, noise};
 use super::pod::request;
 use super::Rng;
@@ -31,7 +32,7 @@ fn step(rng: &mut Rng, writer: &mut Writer<Talk>) {
         writer.say(format!("memory {:X}", rng.below(65_537)));
     }
     let length = writer.memory_length();
-    match rng.below(109) {
+    match rng.below(121) {
         0..=39 => {
             // Ground 13 comes before ground 3.
             let wild = if length > 65_536 { 2 } else { 24 };
@@ -67,6 +68,15 @@ fn step(rng: &mut Rng, writer: &mut Writer<Talk>) {
             writer.say(noise(rng, line.as_bytes()));
         }
         103..=107 => talk_fault(rng, writer),
+        108..=117 => talk_halt(rng, writer),
+        118 => {
+            let line = near_mark(rng, writer.board());
+            writer.say(line);
+        }
+        119 => {
+            let line = bench_line(rng, writer.bench());
+            writer.say(noise(rng, line.as_bytes()));
+        }
         _ => begin(rng, writer),
     }
 }

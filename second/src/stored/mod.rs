@@ -10,6 +10,7 @@ mod every_word;
 mod fault;
 mod firing;
 mod gateway;
+mod halt;
 mod illegal;
 mod lanes;
 mod marks;
@@ -54,6 +55,7 @@ pub fn all() -> Vec<Stored> {
     stored.extend(events::all());
     stored.extend(firing::all());
     stored.extend(lanes::all());
+    stored.extend(halt::all());
     stored.extend(unclear::all());
     stored.extend(typed::all());
     stored.extend(pod::all());

@@ -72,7 +72,7 @@ fn typed(program: &str) -> Vec<Vec<u8>> {
 }
 
 /// Other ways to type a line; some of them are unclear.
-fn ways(line: &str) -> Vec<String> {
+pub(super) fn ways(line: &str) -> Vec<String> {
     let mut ways = vec![line.to_ascii_uppercase(), line.to_ascii_lowercase(), swapped(line, 0), swapped(line, 1)];
     for blank in [" ", "\t", "  ", "\t\t", " \t ", "\x0B", "\x0C", "\u{a0}", "\0"] {
         ways.extend([

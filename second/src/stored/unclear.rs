@@ -40,7 +40,7 @@ pub fn clear(program: &str) -> Vec<&'static str> {
     }
 }
 
-fn spoilt(line: &str) -> Vec<Vec<u8>> {
+pub(super) fn spoilt(line: &str) -> Vec<Vec<u8>> {
     let first = line.split(' ').next().unwrap_or(line);
     let mut texts = vec![
         line.to_string(),
