@@ -1,5 +1,6 @@
 //! Events marked as HALT (02, [6]), UHE set and cleared, and a look at CSR soon after; marks that are none.
 
+use super::aim::command;
 use super::breakpoints::{breakpoint_setup, csr_value, debug_value, unmarked_event};
 use super::Rng;
 use crate::board::Board;
@@ -18,19 +19,20 @@ pub fn mark(rng: &mut Rng, percent: u32) -> &'static str {
 }
 
 /// Ends of an event line that are no mark, or only just.
-const NEAR_MARKS: [&[u8]; 36] = [
+const NEAR_MARKS: [&[u8]; 38] = [
     b" halt", b" user", b" supervisor", b" halt halt", b" user halt", b" supervisor halt", b" halt user user",
-    b" halt user halt user", b" halt user supervisor", b" halt halt user", b" halt user 0", b" 0 halt user",
-    b" halt supervisor 0", b" halt 0", b" halt 1", b" halt 0x0", b" haltuser", b"halt user", b" halts user",
-    b" hal user", b" halt users", b" halt use", b" halt superviso", b" halt supervisors", b" halt superviser",
-    b" halt none", b" 0xhalt user", b" halt 0xuser", b" halt\xA0user", b" halt\x0Buser", b" halt,user",
-    b" halt user #", b" halt #user", b"\thalt \tuser\t", b" HALT SUPERVISOR", b" Halt\tUser",
+    b" halt user halt user", b" halt supervisor halt user", b" halt supervisor halt supervisor",
+    b" halt user supervisor", b" halt halt user", b" halt user 0", b" 0 halt user", b" halt supervisor 0", b" halt 0",
+    b" halt 1", b" halt 0x0", b" haltuser", b"halt user", b" halts user", b" hal user", b" halt users", b" halt use",
+    b" halt superviso", b" halt supervisors", b" halt superviser", b" halt none", b" 0xhalt user", b" halt 0xuser",
+    b" halt\xA0user", b" halt\x0Buser", b" halt,user", b" halt user #", b" halt #user", b"\thalt \tuser\t",
+    b" HALT SUPERVISOR", b" Halt\tUser",
 ];
 
 /// A line with a mark that is none, or only just: spelt otherwise, incomplete, doubled, in the middle.
 pub fn near_mark(rng: &mut Rng, board: &Board) -> Vec<u8> {
     let line = unmarked_event(rng, board);
-    if rng.once_in(6) {
+    if rng.once_in(4) {
         let mark = rng.pick(&["halt user", "halt supervisor", "halt"]);
         let mut words: Vec<&str> = line.split(' ').collect();
         words.insert(rng.below(words.len() as u32) as usize, mark);
@@ -79,6 +81,12 @@ pub fn stand_in_halt(rng: &mut Rng, writer: &mut Writer<StandIn>) {
         }
         if writer.board().is_halted() && rng.percent(95) {
             writer.packet(0x0C00);
+        }
+        if rng.once_in(6) {
+            // A command stays under way.
+            let words = command(rng, writer.bench());
+            let sent = rng.between(1, words.len() as u32) as usize;
+            writer.packets(&words[..sent]);
         }
         let line = event_line(rng, writer.board());
         writer.say(line);
