@@ -3,7 +3,7 @@
 use crate::inputs::{self, Events, Packets, DEBUG_REGISTERS};
 use crate::ours::{self, Numbers};
 use second::board::Board;
-use second::events::{Access, Event, EventAnswer};
+use second::events::{Access, Event, EventAnswer, Mark};
 use second::page::{index_length, make_page, Entry, Rate};
 use second::pod::Request;
 use second::refusal::{Ground, Refusal};
@@ -150,7 +150,7 @@ fn set_up(registers: &[u32; DEBUG_REGISTERS.len()]) -> Board {
 
 fn event_of(words: &[u32]) -> Event {
     let access = |attribute| Access { address: words[2], attribute, data: words[3] };
-    Event { pc: words[0], access: u8::try_from(words[1]).ok().map(access) }
+    Event { pc: words[0], access: u8::try_from(words[1]).ok().map(access), mark: Mark::Absent }
 }
 
 fn word_of(answer: EventAnswer) -> u32 {
