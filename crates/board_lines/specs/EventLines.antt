@@ -27,14 +27,14 @@ eventForm (Three a b c) mark = Unclear
 eventForm (Four pc address attribute lanes) mark = accessLine pc address attribute lanes mark
 eventForm NotNumbers mark = Unclear
 
--- "`halt user` or .. `halt supervisor`"
+-- "`event PC .. halt user` or `.. halt supervisor`"
 unfoldable pub haltForm : Numbers → List ℕ → BoardLine
 haltForm before privilege =
     found Unclear privilege (row (ascii "user") (eventForm before (Halt User))
     ∷ row (ascii "supervisor") (eventForm before (Halt Supervisor))
     ∷ [])
 
--- ".. at the end of an event line": the words behind `halt`
+-- "at the end of an event line": the words behind `halt`
 abbrev pub haltLine : Numbers → List (List ℕ) → BoardLine
 haltLine before [] = Unclear
 haltLine before (privilege ∷ []) = haltForm before privilege
