@@ -72,7 +72,7 @@ same-with-any-mark b p event m = by-verdict (eventVerdict b p event) refl (same-
     }
 
 -- an accepted event: what it is answered of a halt, and what it leaves
-pub record Halting (b : Board) (p : Place) (event : Event) : Type 0 where
+pub record HaltedBy (b : Board) (p : Place) (event : Event) : Type 0 where
   -- halted by it exactly if the breakpoint, SSM or HALT says so
   pub halted : told b p event .halted ≡ (firing (b .status) (b .debug) event .halts || (ssm (b .debug) || haltedItself (b .debug) event))
   pub stops : boardAfterEvent b p event .status .halted ≡ told b p event .halted
@@ -82,7 +82,7 @@ pub record Halting (b : Board) (p : Place) (event : Event) : Type 0 where
   pub halt : boardAfterEvent b p event .status .halt ≡ (b .status .halt || haltedItself (b .debug) event)
   pub trg : boardAfterEvent b p event .status .trg ≡ (b .status .trg || firing (b .status) (b .debug) event .halts)
 
-pub halting-of-event : (b : Board) (p : Place) (event : Event) → eventVerdict b p event ≡ Accepted → Halting b p event
+pub halting-of-event : (b : Board) (p : Place) (event : Event) → eventVerdict b p event ≡ Accepted → HaltedBy b p event
 unfolding seen statusAfter
 halting-of-event b p event accepted = record { halted = rw accepted; stops = rw accepted; ignored = rw accepted; halt = rw accepted; trg = rw accepted }
 
