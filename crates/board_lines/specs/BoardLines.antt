@@ -10,7 +10,7 @@ use Rattle.numbers.specs.declared.Numeral.{Numeral}
 use Rattle.numbers.specs.declared.Numeral.the-variants.{Value, NoNumber}
 use Rattle.numbers.specs.declared.Numbers.{Numbers}
 use Rattle.numbers.specs.declared.Numbers.the-variants.{Zero, One, Two, Three, Four, NotNumbers}
-use Rattle.words.specs.LineWords.{ascii, kindOf, words, lastEnd, same}
+use Rattle.words.specs.LineWords.{ascii, kindOf, words, lastEnd}
 use Rattle.numbers.specs.Numbers.{allDigits, numeral, numbers}
 use Rattle.board_lines.specs.declared.BoardLine.{BoardLine}
 use Rattle.board_lines.specs.declared.BoardLine.the-variants.{Nothing, Make, Memory, Bytes, Packet}
@@ -66,10 +66,11 @@ bytesLine close (a ∷ []) = Unclear
 bytesLine close (a ∷ hex ∷ []) = hexLine close (numeral a) hex
 bytesLine close (a ∷ hex ∷ b ∷ more) = Unclear
 
+-- behind `bytes` and `event` stand words of their own, behind any other name numbers
 unfoldable pub boardWords : ℕ → List (List ℕ) → BoardLine
 boardWords close [] = Unclear
 boardWords close (name ∷ rest) =
-    cond (same name (ascii "bytes")) (bytesLine close rest) (cond (same name (ascii "event")) (eventLine rest) (boardForm name (numbers rest)))
+    found (boardForm name (numbers rest)) name (row (ascii "bytes") (bytesLine close rest) ∷ row (ascii "event") (eventLine rest) ∷ [])
 
 abbrev pub boardAt : LineKind → List ℕ → BoardLine
 boardAt Silent line = Nothing

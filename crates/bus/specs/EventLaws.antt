@@ -1,10 +1,11 @@
 -- Laws of the event and the breakpoint input: what they leave alone, and that the ranges of ground 12 stay kept.
 use Prim.Native.Nat.{ℕ}
 use mathlib.Core.Path.{_≡_, refl}
-use mathlib.Core.Bool.{Bool, true, false, cond}
+use mathlib.Core.Bool.{Bool, true, false, cond, not}
 use lib.Dec.{eqb, leb}
 use Rattle.laws.specs.TestLaws.{both-hold}
 use Rattle.grounds.specs.declared.Ground.{Ground}
+use Rattle.grounds.specs.declared.Ground.the-variants.{EventWhileHalted, StateOutOfRange}
 use Rattle.grounds.specs.declared.Verdict.{Verdict}
 use Rattle.grounds.specs.declared.Verdict.the-variants.{Accepted, Refused}
 use Rattle.grounds.specs.Grounds.{ifAccepted}
@@ -30,6 +31,17 @@ event-changes-status-alone b p e = by-status-alone (eventVerdict b p e) b (statu
 
 pub breakpoint-changes-status-alone : (b : Board) (p : Place) → boardAfterBreakpoint b p ≡ withStatus b (boardAfterBreakpoint b p .status)
 breakpoint-changes-status-alone b p = by-status-alone (breakpointVerdict b p) b (statusPressed (b .status) (pressed (b .status) (b .debug)))
+
+-- "a bus event while halted" is refused: one that is accepted finds the processor running
+pub accepted-while-running : (b : Board) (p : Place) (e : Event) → eventVerdict b p e ≡ Accepted → b .status .halted ≡ false
+unfolding eventVerdict
+accepted-while-running b p e accepted = by (inRange b p) (b .status .halted) _ accepted
+  where
+    by : (within halted : Bool) (rest : Verdict) → cond within (cond (not halted) rest (Refused EventWhileHalted)) (Refused StateOutOfRange) ≡ Accepted
+        → halted ≡ false
+    by true true rest h = cc
+    by true false rest h = refl
+    by false halted rest h = cc
 
 pub refused-event-changes-nothing : (b : Board) (p : Place) (e : Event) (g : Ground) → eventVerdict b p e ≡ Refused g → boardAfterEvent b p e ≡ b
 refused-event-changes-nothing b p e g refused = rw refused

@@ -81,10 +81,12 @@ pub record HaltedBy (b : Board) (p : Place) (event : Event) : Type 0 where
   -- HALT is set exactly if the program halted itself, TRG exactly if the breakpoint halts: [6] "both flags may be set"
   pub halt : boardAfterEvent b p event .status .halt ≡ (b .status .halt || haltedItself (b .debug) event)
   pub trg : boardAfterEvent b p event .status .trg ≡ (b .status .trg || firing (b .status) (b .debug) event .halts)
+  pub bkpt : boardAfterEvent b p event .status .bkpt ≡ b .status .bkpt
 
 pub halting-of-event : (b : Board) (p : Place) (event : Event) → eventVerdict b p event ≡ Accepted → HaltedBy b p event
 unfolding seen statusAfter
-halting-of-event b p event accepted = record { halted = rw accepted; stops = rw accepted; ignored = rw accepted; halt = rw accepted; trg = rw accepted }
+halting-of-event b p event accepted =
+    record { halted = rw accepted; stops = rw accepted; ignored = rw accepted; halt = rw accepted; trg = rw accepted; bkpt = rw accepted }
 
 -- "Reading clears FOF, TRG, HALT, BKPT"; "GO clears TRG, HALT, BKPT": as ever
 pub csr-read-clears-halt : (b : Board) (address value : ℕ) → boardAfter rdmreg b address value .status .halt ≡ false

@@ -1,7 +1,7 @@
 -- [6] "a mark absent means what 01 says today": 01's answer and board as they were defined before the request, and that an event without a mark has them.
 use Prim.Native.Nat.{ℕ}
 use mathlib.Core.Path.{_≡_, refl}
-use mathlib.Core.Bool.{Bool, true, false, _||_}
+use mathlib.Core.Bool.{Bool, false, _||_, or-false}
 use mathlib.Core.List.{List, []}
 use Rattle.grounds.specs.declared.Verdict.{Verdict}
 use Rattle.grounds.specs.declared.Verdict.the-variants.{Accepted, Refused}
@@ -63,10 +63,6 @@ pub record AsBefore (b : Board) (p : Place) (event : Event) : Type 0 where
   pub silent : toldEvent (eventOutcome b p event) .ignored ≡ []
   pub board : boardAfterEvent b p event ≡ boardBefore b p event
 
-or-none : (x : Bool) → (x || false) ≡ x
-or-none true = refl
-or-none false = refl
-
 -- for every event and board
 pub unmarked-as-before : (b : Board) (p : Place) (event : Event) → event .mark ≡ Absent → AsBefore b p event
 unfolding seen statusAfter halting
@@ -74,8 +70,8 @@ unmarked-as-before b p event absent = by-verdict (eventVerdict b p event) refl
   where
     by-verdict : (v : Verdict) → eventVerdict b p event ≡ v → AsBefore b p event
     by-verdict Accepted e = record {
-      answer = rw (e, absent, or-none (ssm (b .debug)));
+      answer = rw (e, absent, or-false (ssm (b .debug)));
       silent = rw (e, absent);
-      board = rw (e, absent, or-none (ssm (b .debug)), or-none (b .status .halt));
+      board = rw (e, absent, or-false (ssm (b .debug)), or-false (b .status .halt));
     }
     by-verdict (Refused g) e = record { answer = rw e; silent = rw e; board = rw e }

@@ -1,16 +1,13 @@
 -- [6] over histories: a board that runs has none of TRG, HALT and BKPT set. So after an event HALT is set exactly if the program halted itself, and TRG exactly
 -- if the breakpoint halted it; and nothing else sets HALT.
 use Prim.Native.Nat.{ℕ}
-use mathlib.Core.Path.{_≡_, refl, _∙_}
-use mathlib.Core.Bool.{Bool, true, false, cond, not, true≢false, _||_}
+use mathlib.Core.Path.{_≡_, refl, sym, _∙_, subst}
+use mathlib.Core.Bool.{true, false, true≢false, _||_}
 use mathlib.Core.List.{List, [], _∷_}
-use lib.ListN.{set}
-use Rattle.laws.specs.TestLaws.{either}
+use Rattle.laws.specs.TestLaws.{either, neither}
 use Rattle.grounds.specs.declared.Verdict.{Verdict}
 use Rattle.grounds.specs.declared.Verdict.the-variants.{Accepted, Refused}
 use Rattle.grounds.specs.Grounds.{ifAccepted}
-use Rattle.grounds.specs.declared.Ground.the-variants.{EventWhileHalted, StateOutOfRange}
-use Rattle.ranges.specs.Ranges.{inRange}
 use Rattle.command.specs.declared.Command.{Command}
 use Rattle.command.specs.declared.DebugRegister.{DebugRegister}
 use Rattle.command.specs.declared.DebugRegister.the-variants.{Tdr}
@@ -20,10 +17,10 @@ use Rattle.board.specs.declared.Place.{Place}
 use Rattle.board.specs.declared.Status.{Status}
 use Rattle.board.specs.declared.Debug.{Debug}
 use Rattle.board.specs.Board.{freshBoard}
-use Rattle.board.specs.Setters.{withRegisters, withControl}
 use Rattle.board.specs.State.{State}
 use Rattle.csr.specs.Csr.{afterCsrRead, afterGo, afterSyncPc}
-use Rattle.control.specs.Control.{controlListed, controlIndex, controlWritten}
+use Rattle.control.specs.Control.{controlWritten}
+use Rattle.control.specs.ControlLaws.{control-changes-registers-alone}
 use Rattle.registers.specs.Registers.{is, armed, debugWritten, boardAfter}
 use Rattle.registers.specs.ChangeLaws.{each-change}
 use Rattle.plan.specs.declared.Plan.{Plan}
@@ -31,10 +28,10 @@ use Rattle.plan.specs.declared.Plan.the-variants.{Hold, Reject, Release, Work}
 use Rattle.step.specs.Step.{left, planFor, wordTaken, stepped}
 use Rattle.port.specs.Packet.{packetVerdict}
 use Rattle.trigger.specs.declared.Event.{Event}
-use Rattle.firing.specs.declared.Firing.{Firing}
-use Rattle.firing.specs.Firing.{ssm, firing, haltedItself, statusAfter}
+use Rattle.firing.specs.Firing.{ssm, firing, haltedItself}
 use Rattle.firing.specs.Breakpoint.{pressed, statusPressed}
 use Rattle.bus.specs.Events.{eventVerdict, breakpointVerdict, boardAfterEvent, boardAfterBreakpoint}
+use Rattle.bus.specs.EventLaws.{accepted-while-running}
 use Rattle.bus.specs.HaltLaws.{halting-of-event}
 use Rattle.promises.specs.Machine.{standIn}
 use Rattle.promises.specs.History.{Call, lending, afterCall, after, made}
@@ -50,11 +47,7 @@ pub record EachStatus (P : Status → Status → Type 0) : Type 0 where
 
 module _ (P : Status → Status → Type 0) (each : EachStatus P) where
   control-status : (b : Board) (n v : ℕ) → P (b .status) (controlWritten b n v .status)
-  unfolding controlWritten
-  control-status b n v =
-      either (λ (x : Board). P (b .status) (x .status)) (controlListed n)
-      (withRegisters b (withControl (b .registers) (set (b .registers .control) (controlIndex n) v))) b
-      (λ e. each .stays (b .status)) (λ e. each .stays (b .status))
+  control-status b n v = subst (λ (x : Board). P (b .status) (x .status)) (sym (control-changes-registers-alone b n v)) (each .stays (b .status))
 
   debug-status : (b : Board) (r : DebugRegister) (v : ℕ) → P (b .status) (debugWritten b r v .status)
   unfolding debugWritten
@@ -118,16 +111,13 @@ bare-changes = record {
   syncPc = λ s h runs. let none = h runs in record { trg = none .trg; halt = none .halt; bkpt = none .bkpt };
 }
 
-neither : (x y : Bool) → (x || y) ≡ false → (x ≡ false) × (y ≡ false)
-neither true y e = (cc, cc)
-neither false y e = (refl, e)
-
-seen-bare : (s : Status) (d : Debug) (e : Event) (f : Firing) → NoFlag s → Bare (statusAfter s d e f)
-unfolding statusAfter
-seen-bare s d e f none runs =
-    let halts = neither (f .halts) (ssm d || haltedItself d e) runs in
-    let itself = neither (ssm d) (haltedItself d e) (halts .1) in
-    record { trg = rw (none .trg, halts .0); halt = rw (none .halt, itself .1); bkpt = none .bkpt }
+seen-bare : (b : Board) (p : Place) (e : Event) → eventVerdict b p e ≡ Accepted → Bare (b .status) → Bare (boardAfterEvent b p e .status)
+seen-bare b p e accepted h runs =
+    let told = halting-of-event b p e accepted in
+    let none = h (accepted-while-running b p e accepted) in
+    let halts = neither (firing (b .status) (b .debug) e .halts) (ssm (b .debug) || haltedItself (b .debug) e) (sym (told .stops ∙ told .halted) ∙ runs) in
+    let itself = neither (ssm (b .debug)) (haltedItself (b .debug) e) (halts .1) in
+    record { trg = told .trg ∙ rw (halts .0, none .trg); halt = told .halt ∙ rw (itself .1, none .halt); bkpt = told .bkpt ∙ none .bkpt }
 
 pressed-bare : (s : Status) (d : Debug) → Bare s → Bare (statusPressed s (pressed s d))
 unfolding statusPressed pressed
@@ -135,17 +125,6 @@ pressed-bare s d h runs =
     let halts = neither (s .halted) (pressed s d .halted) runs in
     let none = h (halts .0) in
     record { trg = none .trg; halt = none .halt; bkpt = rw (none .bkpt, halts .1) }
-
--- an event is accepted while the processor runs alone
-accepted-runs : (b : Board) (p : Place) (e : Event) → eventVerdict b p e ≡ Accepted → b .status .halted ≡ false
-unfolding eventVerdict
-accepted-runs b p e accepted = by (inRange b p) (b .status .halted) _ accepted
-  where
-    by : (within halted : Bool) (rest : Verdict) → cond within (cond (not halted) rest (Refused EventWhileHalted)) (Refused StateOutOfRange) ≡ Accepted
-        → halted ≡ false
-    by true true rest h = cc
-    by true false rest h = refl
-    by false halted rest h = cc
 
 call-bare : (s : State) (c : Call) → Bare (s .board .status) → Bare (afterCall standIn s c .board .status)
 call-bare s (packet m word) h = by (packetVerdict (lending s m) word)
@@ -156,8 +135,7 @@ call-bare s (packet m word) h = by (packetVerdict (lending s m) word)
 call-bare s (event e) h = by (eventVerdict (s .board) (s .place) e) refl
   where
     by : (v : Verdict) → eventVerdict (s .board) (s .place) e ≡ v → Bare (boardAfterEvent (s .board) (s .place) e .status)
-    by Accepted a =
-        rw a (seen-bare (s .board .status) (s .board .debug) e (firing (s .board .status) (s .board .debug) e) (h (accepted-runs (s .board) (s .place) e a)))
+    by Accepted a = seen-bare (s .board) (s .place) e a h
     by (Refused g) a = rw a h
 call-bare s breakpoint h = by (breakpointVerdict (s .board) (s .place)) refl
   where
@@ -187,6 +165,6 @@ module _ (w : ℕ) (history : List Call) where
 
   pub flags-tell : (e : Event) → eventVerdict (here .board) (here .place) e ≡ Accepted → FlagsTell e (boardAfterEvent (here .board) (here .place) e .status)
   flags-tell e accepted =
-      let none = running-has-no-flag (accepted-runs (here .board) (here .place) e accepted) in
+      let none = running-has-no-flag (accepted-while-running (here .board) (here .place) e accepted) in
       let told = halting-of-event (here .board) (here .place) e accepted in
       record { halt = told .halt ∙ rw (none .halt); trg = told .trg ∙ rw (none .trg) }

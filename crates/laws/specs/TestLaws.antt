@@ -1,4 +1,4 @@
--- Laws of tests: what holds in both cases, two tests that both hold, and a test that holds where another does.
+-- Laws of tests: what holds in both cases, two tests that both hold or both fail, and a test that holds where another does.
 use mathlib.Core.Path.{_≡_, refl, sym}
 use mathlib.Core.Bool.{Bool, true, false, cond, _&&_, _||_, or-true}
 
@@ -15,6 +15,10 @@ either P false x y f g = g refl
 pub both-hold : (x y : Bool) → (x && y) ≡ true → (x ≡ true) × (y ≡ true)
 both-hold true y h = (refl, h)
 both-hold false y h = (h, cc)
+
+pub neither : (x y : Bool) → (x || y) ≡ false → (x ≡ false) × (y ≡ false)
+neither true y e = (cc, cc)
+neither false y e = (refl, e)
 
 pub and-holds : (x y : Bool) → x ≡ true → y ≡ true → (x && y) ≡ true
 and-holds x y p q = rw (p, q)

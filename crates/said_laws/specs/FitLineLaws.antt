@@ -123,9 +123,9 @@ pub board-fit : (close : ℕ) (ws : List (List ℕ)) → Fit (boardWords close w
 unfolding boardWords
 board-fit close [] = tt
 board-fit close (name ∷ rest) =
-    one-of Fit (same name (ascii "bytes")) (bytesLine close rest) (cond (same name (ascii "event")) (eventLine rest) (boardForm name (numbers rest)))
-    (bytes-fit close rest)
-    (one-of Fit (same name (ascii "event")) (eventLine rest) (boardForm name (numbers rest)) (event-fit rest) (form-fit name (numbers rest)))
+    of-found Fit (boardForm name (numbers rest)) name (row (ascii "bytes") (bytesLine close rest) ∷ row (ascii "event") (eventLine rest) ∷ [])
+    (form-fit name (numbers rest))
+    (bytes-fit close rest, (event-fit rest, tt))
 
 -- and of talk's
 abbrev pub TalkFit : TalkLine → Type 0

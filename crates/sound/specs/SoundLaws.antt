@@ -28,6 +28,7 @@ use Rattle.board.specs.RegisterBits.{eblOf}
 use Rattle.ranges.specs.Ranges.{phaseInRange, bstatInRange, inRange}
 use Rattle.csr.specs.Csr.{flag, csrWritten, bstatRead}
 use Rattle.control.specs.Control.{controlIndex, controlListed, generalWritten, controlWritten}
+use Rattle.control.specs.ControlLaws.{control-changes-registers-alone}
 use Rattle.registers.specs.Registers.{is, armed, debugLoaded, debugWritten, boardAfter}
 use Rattle.registers.specs.ChangeLaws.{each-change}
 use Rattle.access.specs.AccessLaws.{no-other-changes-memory}
@@ -190,17 +191,20 @@ module _ (w : ℕ) (s : State) (h : SoundBoard w (s .board)) (k : SoundPlace w (
       reply-in-listed (after .phase) (after .next) (plan-reply-listed w (wordTaken s word) taken k l (planFor (s .board) (s .place) word) within)
 
 -- ---- W, whatever is held
-control-keeps-w : (b : Board) (n v : ℕ) → controlWritten b n v .w ≡ b .w
-unfolding controlWritten
-control-keeps-w b n v =
-    either (λ (x : Board). x .w ≡ b .w) (controlListed n) (withRegisters b (withControl (b .registers) (set (b .registers .control) (controlIndex n) v))) b
-    (λ e. refl) (λ e. refl)
-
 work-keeps-w : (c : Command) (b : Board) (address value : ℕ) → boardAfter c b address value .w ≡ b .w
 unfolding debugWritten
 work-keeps-w c b a v =
     each-change (λ change. change b .w ≡ b .w) a v
-    (record { none = refl; csrRead = refl; general = λ n. refl; control = control-keeps-w b a v; debug = λ r. refl; go = refl; syncPc = refl }) c
+    (record {
+      none = refl;
+      csrRead = refl;
+      general = λ n. refl;
+      control = ap (λ (x : Board). x .w) (control-changes-registers-alone b a v);
+      debug = λ r. refl;
+      go = refl;
+      syncPc = refl;
+    })
+    c
 
 pub packet-keeps-w : (s : State) (word : ℕ) → stepped s word .board .w ≡ s .board .w
 unfolding stepped

@@ -2,12 +2,12 @@
 use Prim.Native.Nat.{ℕ, suc, _+_, _-_, _*_, _≤_, _<_}
 use native.Mathlib.Omega.{arith}
 use mathlib.Core.Path.{_≡_, refl, _∙_}
-use mathlib.Core.Bool.{Bool, true, false, cond, _&&_, _||_}
+use mathlib.Core.Bool.{true, false, cond, _&&_, _||_}
 use mathlib.Core.List.{List, [], _∷_}
 use lib.Dec.{eqb, leb, ltb}
 use lib.ListN.{length}
 use borrow.Author.Tests.{leb-false, ltb-true, lt-ltb, ne-eqb}
-use Rattle.laws.specs.TestLaws.{by-test, either}
+use Rattle.laws.specs.TestLaws.{by-test, either, neither}
 use Rattle.command.specs.Reply.{complete}
 use Rattle.requests.specs.declared.ResultKind.{ResultKind}
 use Rattle.requests.specs.Request.{kindOf}
@@ -94,10 +94,6 @@ marker-nearer v i reply few =
     (λ e. either to (leb (v .ends) (v .at)) AsRead (Asking 0 First) (λ e. (tt, omega arith))
     (λ e. ((omega arith, leb-false (v .ends) (v .at) e), omega arith))) in
     within-nearer v (Marking i) (markStage v i reply) (either to (markHolds i reply) _ (NotRead Late) (λ e. next) (λ e. (tt, omega arith)))
-
-neither : (x y : Bool) → (x || y) ≡ false → (x ≡ false) × (y ≡ false)
-neither true y e = (cc, cc)
-neither false y e = (refl, e)
 
 not-yet-ended : (ends j : ℕ) → marked ends j ≡ false → j < ends
 unfolding marked
