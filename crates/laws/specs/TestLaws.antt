@@ -1,6 +1,10 @@
--- Laws of tests: what holds in both cases, two tests that both hold or both fail, and a test that holds where another does.
+-- Laws of tests: what holds in both cases, two tests that both hold or both fail, a test that holds where another does, and being below.
+use Prim.Native.Nat.{ℕ, suc}
 use mathlib.Core.Path.{_≡_, refl, sym}
 use mathlib.Core.Bool.{Bool, true, false, cond, _&&_, _||_, or-true}
+use native.Mathlib.Omega.{arith}
+use lib.Dec.{ltb}
+use borrow.Author.Tests.{lt-ltb, ltb-true}
 
 -- by cases of a test
 pub by-test : {A : Type 0} (t : Bool) → (t ≡ true → A) → (t ≡ false → A) → A
@@ -31,3 +35,13 @@ pub same-truth : (x y : Bool) → (x ≡ true → y ≡ true) → (y ≡ true �
 same-truth true y to from = sym (to refl)
 same-truth false true to from = from refl
 same-truth false false to from = refl
+
+-- what is no i is below the next number where it is below i
+pub below-next : (j i : ℕ) → (j ≡ i → ⊥) → ltb j i ≡ ltb j (suc i)
+below-next j i other = same-truth (ltb j i) (ltb j (suc i)) on back
+  where
+    on : ltb j i ≡ true → ltb j (suc i) ≡ true
+    on t = lt-ltb j (suc i) (omega (arith, ltb-true j i t))
+
+    back : ltb j (suc i) ≡ true → ltb j i ≡ true
+    back t = lt-ltb j i (omega (arith, ltb-true j (suc i) t))

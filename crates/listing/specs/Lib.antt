@@ -1,5 +1,4 @@
 pub mod Listing
-pub mod ListingMirror
 pub mod ListingLaws
 pub mod ListingUnique
 pub mod ListingExamples

@@ -10,7 +10,7 @@ ghost use lib.Seq.{sets};
 ghost use Rattle.cycle.specs.CycleItems.{valueItem, ownItem, itemsAt};
 ghost use Rattle.trace.specs.Items.{itemsToEnd, words};
 ghost use Rattle.listing.specs.Listing.{ListingMeets, ListingFromMeets};
-ghost use Rattle.listing.specs.ListingMirror.{Stored};
+ghost use Rattle.laws.specs.StoredMirror.{Stored};
 
 // An item's two words at a place of the buffer; the place after them.
 fn put_item(out: &mut [u32], at: usize, item: cycle::Item) -> usize

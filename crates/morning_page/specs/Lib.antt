@@ -1,4 +1,3 @@
 pub mod MorningPage
-pub mod SameBytesLaws
 pub mod MorningPageLaws
 pub mod MorningRoomLaws

@@ -1,9 +1,10 @@
 -- The morning's page (docs/morning.md): each check with what came out, and last the verdict.
 use Prim.Native.Nat.{ℕ, _+_, _-_}
 use mathlib.Core.Path.{_≡_}
-use mathlib.Core.Bool.{Bool, true, false, cond, _&&_}
+use mathlib.Core.Bool.{Bool, true, false, cond}
 use mathlib.Core.List.{List, [], _∷_, _++_}
 use lib.Dec.{eqb}
+use Rattle.same.specs.SameList.{same}
 use Rattle.text.specs.Text.{Puts, ascii}
 use Rattle.text.specs.NumberText.{decimalText}
 use Rattle.morning_page.specs.declared.Judged.{Judged}
@@ -16,13 +17,6 @@ pub record Check : Type 0 where
 
 abbrev pub checkOf : List ℕ → List ℕ → List ℕ → Check
 checkOf title due came = record { title = title; due = due; came = came }
-
--- the same bytes
-abbrev pub same : List ℕ → List ℕ → Bool
-same [] [] = true
-same [] (b ∷ bytes) = false
-same (a ∷ bytes) [] = false
-same (a ∷ bytes) (b ∷ others) = eqb a b && same bytes others
 
 -- good is what came out as it is due, to the byte
 unfoldable pub isGood : Check → Bool

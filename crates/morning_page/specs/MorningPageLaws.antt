@@ -8,7 +8,7 @@ use lib.Dec.{eqb}
 use lib.ListN.{length, drop, getD, length-append}
 use lib.Seq.{drop-at}
 use borrow.Author.Tests.{ne-eqb, eqb-true, eqb-false}
-use Rattle.morning_page.specs.SameBytesLaws.{same-equal, equal-same}
+use Rattle.same.specs.SameListLaws.{same-equal, equal-same}
 use Rattle.text.specs.Text.{ascii}
 use Rattle.text.specs.NumberText.{decimalText}
 use Rattle.morning_page.specs.MorningPage.{Check, isGood, checksText, badFrom, badOf, goodLetters, badLetters, pageText, AllAsDue}

@@ -1,11 +1,12 @@
 // The page that is read by eye: each check with what came out, and last how many were bad.
+use same::is_same;
 use text::put_byte;
 use text::put_decimal;
 use text::put_text;
 ghost use mathlib.Core.Path.{_≡_};
 ghost use Prim.Native.Nat.{_-_};
 ghost use Rattle.text.specs.Text.{Puts};
-ghost use Rattle.morning_page.specs.MorningPage.{same, checkOf, underText, judgedText, goodLetters, badLetters, verdictText, JudgedSo};
+ghost use Rattle.morning_page.specs.MorningPage.{checkOf, underText, judgedText, goodLetters, badLetters, verdictText, JudgedSo};
 
 fn put_under(text: &mut [u8], at: usize, verdict: &[u8], title: &[u8], came: &[u8]) -> usize
     ensures { λ r. ⌜ Puts (now (text .entry)) at (underText (now (verdict .entry)) (now (title .entry)) (now (came .entry))) (now (text .exit)) r ⌝ }
@@ -50,23 +51,6 @@ fn one_less(bad: u32) -> u32
         return bad - 1;
     }
     0
-}
-
-// To the byte: case matters here.
-fn is_same(word: &[u8], name: &[u8]) -> bool
-    ensures { λ r. ⌜ r ≡ same (now (word .entry)) (now (name .entry)) ⌝ }
-{
-    if word.len() != name.len() {
-        return false;
-    }
-    let mut i = 0;
-    while i < word.len() {
-        if word[i] != name[i] {
-            return false;
-        }
-        i += 1;
-    }
-    true
 }
 
 // A check's lines; good is what came out as it is due, and nothing else.

@@ -1,4 +1,4 @@
--- Laws of bytes compared one by one: they are the same exactly where they are equal.
+-- Laws of lists compared one by one: they are the same exactly where they are equal.
 use Prim.Native.Nat.{ℕ, _+_, _≤_, _<_}
 use mathlib.Core.Path.{_≡_, refl, ap}
 use mathlib.Core.Bool.{Bool, true, false, _&&_}
@@ -7,7 +7,7 @@ use lib.Dec.{eqb}
 use lib.ListN.{length, getD, drop, drop-of-length-le}
 use borrow.Author.Tests.{eq-eqb, ne-eqb, eqb-true}
 use Rattle.laws.specs.PlaceLaws.{from-here}
-use Rattle.morning_page.specs.MorningPage.{same}
+use Rattle.same.specs.SameList.{same}
 
 pub same-goes-on : (word name : List ℕ) (i : ℕ) → i < length word → i < length name → getD word i 0 ≡ getD name i 0
     → same (drop i word) (drop i name) ≡ same (drop (i + 1) word) (drop (i + 1) name)

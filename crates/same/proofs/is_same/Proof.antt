@@ -3,10 +3,10 @@ use mathlib.Core.Path.{_≡_, refl, sym, _∙_}
 use native.Mathlib.Omega.{arith}
 use borrow.Author.Needs.{needs}
 use lib.ListN.{length, drop}
-use Rattle.morning_page.specs.MorningPage.{same}
-use Rattle.morning_page.specs.SameBytesLaws.{same-length, same-differs, same-goes-on, same-ends}
-use Rattle.morning_page.proofs.is_same.Statement.{statement}
-use Rattle.morning_page.proofs.is_same.Tie as tie
+use Rattle.same.specs.SameList.{same}
+use Rattle.same.specs.SameListLaws.{same-length, same-differs, same-goes-on, same-ends}
+use Rattle.same.proofs.is_same.Statement.{statement}
+use Rattle.same.proofs.is_same.Tie as tie
 
 abbrev Inv-loop : tie.InvT-loop
 Inv-loop word name i₀ i = (i ≤ length word) × (same word name ≡ same (drop i word) (drop i name))

@@ -1,0 +1,2 @@
+pub mod SameList
+pub mod SameListLaws
