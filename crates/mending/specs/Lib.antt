@@ -1,0 +1,9 @@
+pub mod Mending
+pub mod MendingAnswer
+pub mod MendingMirror
+pub mod MendingLaws
+pub mod MendingStoreLaws
+pub mod MendingCountLaws
+pub mod MendingUnique
+pub mod MendingAnswerLaws
+pub mod MendingExamples

@@ -1,0 +1,60 @@
+-- Laws of mending's answer: each refusal where its turn comes, the promise from the answer alone, and what stands in buffers that are long enough.
+use mathlib.Core.Path.{_≡_, refl, ap, _∙_}
+use Prim.Native.Nat.{ℕ, _≤_, _<_}
+use mathlib.Core.List.{List}
+use native.Mathlib.Omega.{arith}
+use lib.ListN.{length, take}
+use lib.Seq.{take-at}
+use borrow.Author.Tests.{lt-ltb, le-ltb}
+use Rattle.trace.specs.TraceReading.{refusal, counted, tooLong, tooShort}
+use Rattle.trace.specs.TraceReadingLaws.{short-so, room-so}
+use Rattle.mending.specs.declared.Mending.{Mending}
+use Rattle.mending.specs.declared.Mending.the-variants.{Changed}
+use Rattle.mending.specs.Mending.{mendedPst, mended, changes}
+use Rattle.mending.specs.MendingStoreLaws.{retold-length, changes-at-most}
+use Rattle.mending.specs.MendingUnique.{toldMending-unique}
+use Rattle.mending.specs.MendingAnswer.{toldMending, mending, putFront, MendingMeets}
+
+module _ (trace : List ℕ) (bytes words : ℕ) where
+  pub mending-long : 65536 < length trace → mending trace bytes words ≡ refusal 7 0
+  unfolding mending tooLong
+  mending-long h = rw (lt-ltb 65536 (length trace) h)
+
+  module _ (short : length trace ≤ 65536) where
+    judged-on : mending trace bytes words
+        ≡ tooShort (length trace) bytes (tooShort (length (changes trace)) words (counted (length (changes trace))))
+    unfolding mending tooLong
+    judged-on = rw (le-ltb 65536 (length trace) short)
+
+    pub no-room-for-trace : bytes < length trace → mending trace bytes words ≡ refusal 11 0
+    no-room-for-trace h = judged-on ∙ short-so (length trace) bytes _ h
+
+    module _ (room : length trace ≤ bytes) where
+      pub no-room-for-list : words < length (changes trace) → mending trace bytes words ≡ refusal 11 0
+      no-room-for-list h = judged-on ∙ room-so (length trace) bytes _ room ∙ short-so (length (changes trace)) words _ h
+
+      pub mending-done : length (changes trace) ≤ words → mending trace bytes words ≡ counted (length (changes trace))
+      mending-done h = judged-on ∙ room-so (length trace) bytes _ room ∙ room-so (length (changes trace)) words _ h
+
+-- the promise, from the answer alone
+pub mending-meets : (trace bytes words bytes′ words′ : List ℕ) (r : Mending) → toldMending r ≡ mending trace (length bytes) (length words)
+    → bytes′ ≡ putFront (mended trace) bytes (toldMending r) → words′ ≡ putFront (changes trace) words (toldMending r)
+    → MendingMeets trace bytes words r bytes′ words′
+mending-meets trace bytes words bytes′ words′ r e f g =
+    record { answer = e; cycles = f ∙ ap (putFront (mended trace) bytes) e; list = g ∙ ap (putFront (changes trace) words) e }
+
+-- with room for as many bytes and words as there are cycles, only 7 is refused; what was put stands at the front
+pub record MendedInto (trace : List ℕ) (r : Mending) (bytes words : List ℕ) : Type 0 where
+  pub answer : r ≡ Changed (length (changes trace))
+  pub cycles : take (length trace) bytes ≡ mended trace
+  pub list : take (length (changes trace)) words ≡ changes trace
+
+pub mended-into : {trace bytes words bytes′ words′ : List ℕ} {r : Mending} → MendingMeets trace bytes words r bytes′ words′
+    → length trace ≤ 65536 → length trace ≤ length bytes → length trace ≤ length words → MendedInto trace r bytes′ words′
+mended-into {trace} {bytes} {words} {bytes′} {words′} {r} m short room places =
+    let done = mending-done trace (length bytes) (length words) short room (omega (arith, changes-at-most trace (length trace))) in
+    record {
+      answer = toldMending-unique r (Changed (length (changes trace))) (m .answer ∙ done);
+      cycles = rw (m .cycles, done) (take-at (mended trace) _ (length trace) (retold-length (mendedPst trace) trace (length trace)));
+      list = rw (m .list, done) (take-at (changes trace) _ (length (changes trace)) refl);
+    }
