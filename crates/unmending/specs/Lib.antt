@@ -1,0 +1,3 @@
+pub mod Unmending
+pub mod UnmendingLaws
+pub mod UnmendingUnique
