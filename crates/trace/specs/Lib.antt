@@ -5,3 +5,4 @@ pub mod ItemsFromLaws
 pub mod TraceReadingLaws
 pub mod TraceReadingUnique
 pub mod TraceStartLaws
+pub mod TraceReadableLaws

@@ -1,0 +1,6 @@
+pub mod RetoldLaws
+pub mod MendedReadableLaws
+pub mod MendedOnceLaws
+pub mod ChangeListLaws
+pub mod ChangeNeededLaws
+pub mod PutBackLaws

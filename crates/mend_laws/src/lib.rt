@@ -1,0 +1,1 @@
+// What sets CSR's HALT, over histories: no code.
