@@ -1,7 +1,7 @@
 // Lines from standard input, and text to standard output.
 ghost use Prim.Native.Nat.{_≤_, min};
 ghost use mathlib.Core.Path.{_≡_};
-ghost use lib.ListN.{length, take};
+ghost use lib.ListN.{length};
 ghost use Rattle.text.specs.Text.{written};
 ghost use Rattle.console.specs.InputLines.{isLineEnd};
 ghost use Rattle.console.specs.LineReading.{CutMeets, HoldMeets, NextMeets, unreadOf};
@@ -154,19 +154,9 @@ pub fn next_line(source: &mut [u8], unread: Unread, line: &mut [u8]) -> LineTake
     }
 }
 
-// The text up to a place.
-fn front(text: &[u8], end: usize) -> &[u8]
-    ensures { λ r. ⌜ now r ≡ take end (now (text .entry)) ⌝ }
-{
-    if end < text.len() {
-        return &text[..end];
-    }
-    text
-}
-
 // Writes the text up to a place to a stream. Nothing is to be done where it is closed.
 pub fn write_to(stream: i32, text: &[u8], end: usize) {
-    io::write_all(stream, front(text, end));
+    io::write_all(stream, parts::front(text, end));
 }
 
 // To standard output.

@@ -3,8 +3,8 @@ use mathlib.Core.Path.{sym}
 use lib.ListN.{length-take}
 use lib.Seq.{take-all}
 use borrow.Author.Needs.{needs}
-use Rattle.console.proofs.front.Statement.{statement}
-use Rattle.console.proofs.front.Tie as tie
+use Rattle.parts.proofs.front.Statement.{statement}
+use Rattle.parts.proofs.front.Tie as tie
 
 slice-aggregate-result : tie.Need-slice-aggregate-result
 slice-aggregate-result c = simp length-take (omega (arith, c .before .if1 .taken))

@@ -1,0 +1,15 @@
+// Mends the trace on standard input, one byte a cycle, onto standard output; what was changed goes to standard error.
+use libc::STDERR_FILENO;
+use libc::STDIN_FILENO;
+
+// A trace of 65,536 bytes, a list of 65,536 words and a text of 600,000 bytes are never too short (mend_laws' MendRoomLaws).
+fn main() {
+    let mut trace = [0u8; 65537];
+    let mut bytes = [0u8; 65536];
+    let mut words = [0u32; 65536];
+    let mut text = [0u8; 600000];
+    let cycles = io::read_full(STDIN_FILENO, &mut trace);
+    let said = mend_text::tell_mended(&mut text, &trace[..cycles], &mut bytes, &mut words);
+    console::write(&bytes, said.cycles);
+    console::write_to(STDERR_FILENO, &text, said.end);
+}

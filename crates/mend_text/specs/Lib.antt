@@ -1,0 +1,2 @@
+pub mod MendText
+pub mod MendTextLaws

@@ -1,0 +1,2 @@
+pub mod UnmendText
+pub mod UnmendTextLaws
