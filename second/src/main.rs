@@ -7,7 +7,7 @@ use std::io::{self, BufWriter, Write};
 use std::path::Path;
 use std::process::ExitCode;
 
-const USAGE: &str = "usage: second stand_in | pod | talk | trace_list | page
+const USAGE: &str = "usage: second stand_in | pod | talk | trace_list | page | mend | unmend
        second trace_list FROM
        second gateway [ADDRESS LONGWORDS]
        second morning
@@ -33,6 +33,8 @@ fn main() -> ExitCode {
     arguments.retain(|&argument| argument != "--all");
     let done = match arguments[..] {
         ["page"] => print_page(),
+        ["mend"] => mend(),
+        ["unmend"] => unmend(),
         [name] if desk::LINE_PROGRAMS.contains(&name) => converse(name),
         ["morning"] => check_morning(),
         ["cycles"] => write_cycles(),
@@ -91,6 +93,18 @@ fn visit(arguments: &[&str]) -> ExitCode {
 fn print_page() -> Result<bool, String> {
     let mut output = BufWriter::new(io::stdout().lock());
     desk::page(&mut io::stdin().lock(), &mut output).map_err(|error| format!("second page: {error}"))?;
+    Ok(true)
+}
+
+fn mend() -> Result<bool, String> {
+    let (mut output, mut list) = (BufWriter::new(io::stdout().lock()), BufWriter::new(io::stderr()));
+    desk::mend(&mut io::stdin().lock(), &mut output, &mut list).map_err(|error| format!("second mend: {error}"))?;
+    Ok(true)
+}
+
+fn unmend() -> Result<bool, String> {
+    let (mut output, mut said) = (BufWriter::new(io::stdout().lock()), BufWriter::new(io::stderr()));
+    desk::unmend(&mut io::stdin().lock(), &mut output, &mut said).map_err(|error| format!("second unmend: {error}"))?;
     Ok(true)
 }
 

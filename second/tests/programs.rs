@@ -53,7 +53,7 @@ fn a_line_is_answered_at_its_cr_and_quit_ends_the_program() {
     }
 }
 
-/// A directory of programs, `gateway` aside: `second` by its names, one of them behind a filter.
+/// A directory of programs, `gateway`, `mend` and `unmend` aside: `second` by its names, one of them behind a filter.
 fn programs(name: &str, filtered: &str, filter: &str) -> PathBuf {
     programs_between(name, filtered, "cat", filter)
 }
@@ -84,6 +84,21 @@ fn put_gateway(directory: &Path, packets: &str, results: &str) {
     fs::set_permissions(&path, fs::Permissions::from_mode(0o755)).unwrap();
 }
 
+/// `second mend` and `second unmend`, one of them behind a filter of what it writes and one of what it says.
+fn put_menders(directory: &Path, filtered: &str, output: &str, said: &str) {
+    fs::create_dir_all(directory).unwrap();
+    for program in ["mend", "unmend"] {
+        let path = directory.join(program);
+        let text = if program == filtered {
+            format!("#!/bin/sh\nexec 3>&1\n{{ '{SECOND}' {program} | {output} >&3; }} 2>&1 | {said} >&2\n")
+        } else {
+            format!("#!/bin/sh\nexec '{SECOND}' {program}\n")
+        };
+        fs::write(&path, text).unwrap();
+        fs::set_permissions(&path, fs::Permissions::from_mode(0o755)).unwrap();
+    }
+}
+
 fn second(arguments: &[&str]) -> (bool, String) {
     let Output { status, stdout, .. } = Command::new(SECOND).args(arguments).output().unwrap();
     (status.success(), String::from_utf8(stdout).unwrap())
@@ -97,6 +112,7 @@ fn vectors() -> String {
 fn the_same_programs_agree() {
     let directory = programs("same", "", "cat");
     put_gateway(&directory, "cat", "cat");
+    put_menders(&directory, "", "", "");
     let bin = directory.to_str().unwrap();
     let (good, text) = second(&["compare", "--all", bin, &vectors()]);
     assert!(good, "{text}");
@@ -104,6 +120,7 @@ fn the_same_programs_agree() {
     let (good, text) = second(&["random", "--all", bin, "1", "3"]);
     assert!(good, "{text}");
     assert!(text.starts_with("3 rounds agree: 4800 lines, 60 traces, "), "{text}");
+    assert!(text.ends_with(" visits, 60 mended traces, 240 spoilt lists\n"), "{text}");
     let (good, text) = second(&["soak", bin, "1"]);
     assert!(good && text.ends_with("all agree\n"), "{text}");
 }
@@ -178,6 +195,7 @@ fn missing_programs_are_reported() {
     for name in ["talk", "gateway"] {
         let directory = programs(&format!("missing_{name}"), "", "cat");
         put_gateway(&directory, "cat", "cat");
+        put_menders(&directory, "", "", "");
         fs::remove_file(directory.join(name)).unwrap();
         let bin = directory.to_str().unwrap();
         let (good, text) = second(&["compare", bin, &vectors()]);
@@ -240,5 +258,103 @@ fn a_gateway_may_have_any_status_but_must_not_be_killed() {
         fs::write(directory.join("gateway"), format!("#!/bin/sh\n'{SECOND}' gateway \"$@\"\n{end}\n")).unwrap();
         let (agree, text) = second(&["compare", directory.to_str().unwrap(), &vectors()]);
         assert!(agree == good && text.contains(vector), "{name}: {text}");
+    }
+}
+
+/// A directory with nothing but `mend` and `unmend`, one of them behind filters.
+fn menders_alone(name: &str, filtered: &str, output: &str, said: &str) -> PathBuf {
+    let directory = Path::new(env!("CARGO_TARGET_TMPDIR")).join(name);
+    put_menders(&directory, filtered, output, said);
+    directory
+}
+
+#[test]
+fn a_mended_trace_and_its_list_are_both_compared() {
+    let written = "\\x10P\\x90\\x04\\x03\\x02\\x11\\xf0\\xf0";
+    for (name, output, said, vector, expected, actual, shortest) in [
+        ("written_otherwise", "tr '\\220' '\\221'", "cat", "p9", written, "\\x10P\\x91\\x04", "90 00*4"),
+        ("nothing_written", "tr -d '\\000-\\377'", "cat", "p9", written, "(nothing)", "00"),
+        ("listed_otherwise", "cat", "sed 's/ 11$/ 10/'", "ends_with_B", "1 11", "1 10", "B"),
+    ] {
+        let directory = menders_alone(name, "mend", output, said);
+        let bin = directory.to_str().unwrap();
+        let (_, text) = second(&["compare", bin, &vectors()]);
+        let shown = format!("DIFFERS mend/{vector}\n  output line 2\n  expected: {expected}\n  actual:   {actual}");
+        assert!(text.contains(&shown), "{name}: {text}");
+        let (good, text) = second(&["random", bin, "1", "20"]);
+        assert!(!good && text.contains(&format!("mend differs; the shortest trace found:\n    {shortest}")), "{text}");
+    }
+}
+
+#[test]
+fn an_unmender_is_compared_by_the_way_back_and_by_spoilt_lists() {
+    for (name, output, said, vector, shortest) in [
+        (
+            "put_back_otherwise",
+            "tr '\\052' '\\012'",
+            "cat",
+            "reserved_2",
+            "what mend made is not put back; the shortest trace found:\n    2A\n",
+        ),
+        (
+            "said_otherwise",
+            "cat",
+            "sed s/not-its-list/unclear/",
+            "twice",
+            "unmend differs; the shortest input found:\n    mended cycles=",
+        ),
+    ] {
+        let directory = menders_alone(name, "unmend", output, said);
+        let bin = directory.to_str().unwrap();
+        let (good, text) = second(&["compare", bin, &vectors()]);
+        assert!(!good && text.contains(&format!("DIFFERS unmend/{vector}\n")), "{name}: {text}");
+        assert!(!text.contains("DIFFERS mend/"), "{name}: {text}");
+        let (good, text) = second(&["random", bin, "1", "20"]);
+        assert!(!good && text.contains(shortest), "{name}: {text}");
+    }
+}
+
+#[test]
+fn what_mend_made_must_be_listed() {
+    let directory = Path::new(env!("CARGO_TARGET_TMPDIR")).join("not_listed");
+    let (last, given) = (directory.join("last"), directory.join("given"));
+    drop(fs::remove_file(&last));
+    menders_alone("not_listed", "mend", &format!("tee '{}'", last.display()), "cat");
+    // A lister that refuses what was mended last and nothing else.
+    let (last, given) = (last.display(), given.display());
+    let refused = format!("if cmp -s '{last}' '{given}'; then echo refused 10 at 0; exit; fi");
+    let lister = format!("#!/bin/sh\ncat >'{given}'\n{refused}\nexec '{SECOND}' trace_list \"$@\" <'{given}'\n");
+    fs::write(directory.join("trace_list"), lister).unwrap();
+    fs::set_permissions(directory.join("trace_list"), fs::Permissions::from_mode(0o755)).unwrap();
+    let (good, text) = second(&["random", directory.to_str().unwrap(), "1", "1"]);
+    assert!(!good && text.contains("what mend made is not listed; the shortest trace found:\n"), "{text}");
+    assert!(text.ends_with("  trace_list says: refused 10 at 0\n"), "{text}");
+}
+
+/// Runs `second` as one of its programs: its exit status, standard error and standard output.
+fn mender(program: &str, input: &[u8]) -> (Option<i32>, String, Vec<u8>) {
+    let mut child = Command::new(SECOND)
+        .arg(program)
+        .stdin(Stdio::piped())
+        .stdout(Stdio::piped())
+        .stderr(Stdio::piped())
+        .spawn()
+        .unwrap();
+    // What is too long is not read to its end.
+    drop(child.stdin.take().unwrap().write_all(input));
+    let Output { status, stdout, stderr } = child.wait_with_output().unwrap();
+    (status.code(), String::from_utf8(stderr).unwrap(), stdout)
+}
+
+#[test]
+fn menders_say_on_standard_error_and_always_end_well() {
+    for (program, input, said, written) in [
+        ("mend", &b"\x10\x2A"[..], "mended cycles=2 changed=1\n1 2\n", &b"\x10\x0A"[..]),
+        ("mend", &[0; 65_537], "refused 7 at 0\n", b""),
+        ("unmend", b"mended cycles=2 changed=1\n1 2\n\x10\x0A", "unmended cycles=2 changed=1\n", b"\x10\x2A"),
+        ("unmend", b"mended cycles=2 changed=1\n1 1\n\x10\x0A", "not-its-list\n", b""),
+        ("unmend", b"", "unclear\n", b""),
+    ] {
+        assert_eq!(mender(program, input), (Some(0), said.to_string(), written.to_vec()));
     }
 }

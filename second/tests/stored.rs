@@ -12,7 +12,7 @@ use std::path::{Path, PathBuf};
 /// The most lines of an input that a person reads.
 const READABLE: usize = 120;
 /// The folders of traces, each with a list of their cycles.
-const TRACE_FOLDERS: [&str; 3] = ["trace_list", "page", "list_from"];
+const TRACE_FOLDERS: [&str; 4] = ["trace_list", "page", "list_from", "mend"];
 
 fn vectors() -> PathBuf {
     Path::new(env!("CARGO_MANIFEST_DIR")).join("vectors")
@@ -55,6 +55,9 @@ fn no_file_is_stale() {
         if TRACE_FOLDERS.contains(&folder) {
             names.insert("cycles.txt".to_string());
         }
+        if folder == "unmend" {
+            names.insert("lists.txt".to_string());
+        }
         assert_eq!(names_in(folder), names);
     }
 }
@@ -73,15 +76,46 @@ fn inputs_are_short_and_begin_with_a_comment() {
 #[test]
 fn traces_hold_the_cycles_listed_for_them() {
     for folder in TRACE_FOLDERS {
-        let mut listed = BTreeSet::new();
-        let text = text_of(&format!("{folder}/cycles.txt"));
-        for line in text.lines().filter(|line| !line.is_empty() && !line.starts_with('#')) {
-            let (name, cycles) = line.split_once(' ').unwrap_or((line, ""));
-            let path = vectors().join(folder).join(name.to_string() + ".in");
-            assert!(fs::read(&path).unwrap() == trace(cycles), "{folder}/{name}");
-            assert!(listed.insert(name.to_string()), "{folder}/{name} twice");
-        }
-        assert_eq!(listed, inputs_of(folder).into_iter().map(|(name, _)| name).collect());
+        inputs_are_as_listed(folder, "cycles.txt", trace);
+    }
+}
+
+#[test]
+fn inputs_of_unmend_are_as_listed() {
+    inputs_are_as_listed("unmend", "lists.txt", |line| {
+        let (text, cycles) = line.rsplit_once('|').unwrap();
+        let text = text.strip_suffix(' ').unwrap_or(text);
+        let text = text.replace("\\n", "\n").replace("\\r", "\r").replace("\\t", "\t");
+        [text.into_bytes(), trace(cycles)].concat()
+    });
+}
+
+/// A list has a line for each input of its folder: its name, and what it holds.
+fn inputs_are_as_listed(folder: &str, list: &str, bytes_of: impl Fn(&str) -> Vec<u8>) {
+    let mut listed = BTreeSet::new();
+    let text = text_of(&format!("{folder}/{list}"));
+    for line in text.lines().filter(|line| !line.is_empty() && !line.starts_with('#')) {
+        let (name, rest) = line.split_once(' ').unwrap_or((line, ""));
+        let path = vectors().join(folder).join(name.to_string() + ".in");
+        assert!(fs::read(&path).unwrap() == bytes_of(rest), "{folder}/{name}");
+        assert!(listed.insert(name.to_string()), "{folder}/{name} twice");
+    }
+    assert_eq!(listed, inputs_of(folder).into_iter().map(|(name, _)| name).collect());
+}
+
+/// A trace mended is what `unmend` reads: those that stand in both folders by the same name are such pairs.
+#[test]
+fn the_outputs_of_mend_are_inputs_of_unmend() {
+    let read = |folder: &str, name: &str, ending: &str| {
+        fs::read(vectors().join(folder).join(format!("{name}.{ending}"))).unwrap()
+    };
+    let mended: BTreeSet<String> = inputs_of("mend").into_iter().map(|(name, _)| name).collect();
+    let both: Vec<String> =
+        inputs_of("unmend").into_iter().map(|(name, _)| name).filter(|name| mended.contains(name)).collect();
+    assert!(both.len() > 10);
+    for name in both {
+        assert!(read("mend", &name, "out") == read("unmend", &name, "in"), "{name}");
+        assert!(read("unmend", &name, "out").ends_with(&read("mend", &name, "in")), "{name}");
     }
 }
 

@@ -95,8 +95,12 @@ impl fmt::Display for Difference {
                     Some((number, line)) => writeln!(f, "  line {number}:   {}", shown(Some(line)))?,
                     None => writeln!(f, "  output line {answer}")?,
                 }
-                writeln!(f, "  expected: {}", shown(expected.as_deref()))?;
-                write!(f, "  actual:   {}", shown(actual.as_deref()))?;
+                let same = same_beginning(expected.as_deref(), actual.as_deref());
+                if same > 0 {
+                    writeln!(f, "  both begin with the same {same} bytes")?;
+                }
+                writeln!(f, "  expected: {}", shown(expected.as_deref().map(|line| &line[same..])))?;
+                write!(f, "  actual:   {}", shown(actual.as_deref().map(|line| &line[same..])))?;
                 if !note.is_empty() {
                     write!(f, "\n  {note}")?;
                 }
@@ -106,22 +110,31 @@ impl fmt::Display for Difference {
     }
 }
 
-/// A line in print, cut if it is very long. Only a line end that is LF alone is not shown.
+/// The most of a line that is shown.
+const SHOWN: usize = 1000;
+
+/// How many bytes need not be shown, so that two very long lines are seen to differ.
+fn same_beginning(one: Option<&[u8]>, other: Option<&[u8]>) -> usize {
+    let (one, other) = (one.unwrap_or_default(), other.unwrap_or_default());
+    let same = one.iter().zip(other).take_while(|(one, other)| one == other).count();
+    same.saturating_sub(SHOWN / 2)
+}
+
+/// A line in print. Only a line end that is LF alone is not shown.
 pub fn shown(line: Option<&[u8]>) -> String {
-    const SHOWN: usize = 1000;
     match line {
         None => "(nothing)".to_string(),
-        Some(line) => {
-            let body = match line {
-                [body @ .., b'\n'] if body.last() != Some(&b'\r') => body,
-                line => line,
-            };
-            let text = body[..body.len().min(SHOWN)].escape_ascii().to_string();
-            if body.len() > SHOWN {
-                format!("{text}.. ({} bytes)", body.len())
-            } else {
-                text
-            }
-        }
+        Some([body @ .., b'\n']) if body.last() != Some(&b'\r') => in_print(body),
+        Some(line) => in_print(line),
+    }
+}
+
+/// Bytes in print, cut if they are very many.
+pub fn in_print(bytes: &[u8]) -> String {
+    let text = bytes[..bytes.len().min(SHOWN)].escape_ascii().to_string();
+    if bytes.len() > SHOWN {
+        format!("{text}.. ({} bytes)", bytes.len())
+    } else {
+        text
     }
 }

@@ -4,7 +4,8 @@ use crate::bridge::{play, played_output, Own};
 use crate::desk::output_with;
 
 /// The folders: one for each program, and one for `trace_list` with a cycle to start from.
-pub const FOLDERS: [&str; 7] = ["stand_in", "pod", "talk", "trace_list", "page", "list_from", "gateway"];
+pub const FOLDERS: [&str; 9] =
+    ["stand_in", "pod", "talk", "trace_list", "page", "list_from", "gateway", "mend", "unmend"];
 
 /// The program that the inputs of a folder are for.
 pub fn program_of(folder: &str) -> &str {

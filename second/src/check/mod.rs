@@ -4,6 +4,7 @@ mod compare;
 mod difference;
 mod expect;
 mod folder;
+mod mending;
 mod rounds;
 mod run;
 mod shrink;
@@ -22,7 +23,7 @@ pub use visitor::Process;
 use std::path::{Path, PathBuf};
 
 /// The programs under test, by name.
-pub const PROGRAMS: [&str; 6] = ["stand_in", "pod", "talk", "trace_list", "page", "gateway"];
+pub const PROGRAMS: [&str; 8] = ["stand_in", "pod", "talk", "trace_list", "page", "gateway", "mend", "unmend"];
 
 /// A program under test, and the arguments it is run with.
 #[derive(Clone, Copy)]

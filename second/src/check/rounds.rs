@@ -1,6 +1,7 @@
 //! Random scripts and traces through the programs under test: one round has one seed.
 
 use super::difference::{shown, try_input, try_lines, Difference};
+use super::mending::try_mending;
 use super::shrink::{blank, shrink};
 use super::{Found, Subject};
 use crate::cycles::show_cycles;
@@ -31,11 +32,14 @@ pub struct Tally {
     pub lines: usize,
     pub traces: usize,
     pub visits: usize,
+    pub mended: usize,
+    pub lists: usize,
 }
 
 impl fmt::Display for Tally {
     fn fmt(&self, f: &mut fmt::Formatter<'_>) -> fmt::Result {
-        write!(f, "{} lines, {} traces, {} visits", self.lines, self.traces, self.visits)
+        let Tally { lines, traces, visits, mended, lists } = self;
+        write!(f, "{lines} lines, {traces} traces, {visits} visits, {mended} mended traces, {lists} spoilt lists")
     }
 }
 
@@ -70,7 +74,7 @@ pub fn round(found: &Found, seed: u64, tally: &mut Tally) -> Result<(), String> 
             try_whole(subject, script.into_iter().map(ended).collect())?;
         }
     }
-    Ok(())
+    try_mending(found, &mut stream(seed, "mend"), tally)
 }
 
 fn ended(mut line: Vec<u8>) -> Vec<u8> {
@@ -150,12 +154,14 @@ fn earlier_start<'a>(subject: Subject<'a>, trace: &'a [u8]) -> (Subject<'a>, &'a
 }
 
 /// Makes those cycles idle that need not be what they are, then leaves out blocks between two entries of the index, then
-/// cycles.
-fn shortest_trace(trace: &[u8], fails: impl Fn(&[u8]) -> bool) -> Vec<u8> {
+/// cycles; of those that are left the nibbles become 0 that may.
+pub(super) fn shortest_trace(trace: &[u8], fails: impl Fn(&[u8]) -> bool) -> Vec<u8> {
     let idle = blank(trace, &vec![0; trace.len()], SHRINK_TIME, &fails);
     let blocks: Vec<Vec<u8>> = idle.chunks(INDEX_STEP).map(<[u8]>::to_vec).collect();
     let blocks = shrink(&blocks, SHRINK_TIME, |blocks| fails(&blocks.concat()));
-    shrink(&blocks.concat(), SHRINK_TIME, &fails)
+    let shortest = shrink(&blocks.concat(), SHRINK_TIME, &fails);
+    let without_ddata: Vec<u8> = shortest.iter().map(|byte| byte & 0xF0).collect();
+    blank(&shortest, &without_ddata, SHRINK_TIME, &fails)
 }
 
 /// `count` rounds from `seed` on. True if all agree.

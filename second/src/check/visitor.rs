@@ -103,7 +103,7 @@ impl Process<'_> {
     }
 }
 
-fn left_of(deadline: Instant) -> Duration {
+pub(super) fn left_of(deadline: Instant) -> Duration {
     deadline.saturating_duration_since(Instant::now())
 }
 
@@ -130,7 +130,7 @@ fn read_lines(output: impl Read + Send + 'static) -> Receiver<Vec<Vec<u8>>> {
     receiver
 }
 
-fn read_all(output: impl Read + Send + 'static) -> Receiver<Vec<u8>> {
+pub(super) fn read_all(output: impl Read + Send + 'static) -> Receiver<Vec<u8>> {
     let (sender, receiver) = mpsc::channel();
     thread::spawn(move || {
         let mut bytes = Vec::new();

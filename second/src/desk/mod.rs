@@ -2,20 +2,24 @@
 
 mod bench;
 mod gateway;
+mod mend;
 pub mod morning;
 mod page;
 mod pod;
 mod stand_in;
 mod talk;
 mod trace_list;
+mod unmend;
 
 pub use bench::Bench;
 pub use gateway::gateway;
+pub use mend::mend;
 pub use page::page;
 pub use pod::{parse_request, Pod};
 pub use stand_in::StandIn;
 pub use talk::Talk;
 pub use trace_list::trace_list;
+pub use unmend::{unmend, INPUT_LIMIT};
 
 use crate::line::{gets_no_answer, words, LINE_LIMIT};
 use std::io::{self, BufRead, Write};
@@ -82,7 +86,13 @@ pub fn converse(program: &mut dyn Program, input: &mut impl BufRead, output: &mu
     Ok(())
 }
 
-/// The whole output of a program, by name, for a whole input.
+/// True of the programs whose standard output is a trace, and whose words go to standard error.
+pub fn says_and_writes(name: &str) -> bool {
+    matches!(name, "mend" | "unmend")
+}
+
+/// The whole output of a program, by name, for a whole input: what it says on standard error, if that is the place for it, and
+/// behind it what it writes to standard output.
 pub fn output_of(name: &str, input: &[u8]) -> Option<Vec<u8>> {
     output_with(name, &[], input)
 }
@@ -90,11 +100,14 @@ pub fn output_of(name: &str, input: &[u8]) -> Option<Vec<u8>> {
 /// As `output_of`, with the arguments that `trace_list` may have.
 pub fn output_with(name: &str, arguments: &[&str], mut input: &[u8]) -> Option<Vec<u8>> {
     let mut output = Vec::new();
+    let mut said = Vec::new();
     let done = match name {
         "trace_list" => trace_list(arguments, &mut input, &mut output),
         "page" => page(&mut input, &mut output),
+        "mend" => mend(&mut input, &mut output, &mut said),
+        "unmend" => unmend(&mut input, &mut output, &mut said),
         _ => converse(line_program(name)?.as_mut(), &mut input, &mut output),
     };
     done.expect("a slice can be read and a vector written");
-    Some(output)
+    Some([said, output].concat())
 }

@@ -2,24 +2,30 @@
 
 mod aim;
 mod breakpoints;
+mod dropouts;
 mod fault;
 mod from;
 mod gateway;
 mod halt;
+mod list;
 mod marks;
 mod noise;
 mod pod;
 mod rng;
+mod spoilt;
 mod stand_in;
 mod talk;
 mod trace;
 mod typing;
 
+pub use dropouts::damaged_trace;
 pub use from::random_arguments;
 pub use gateway::gateway_script;
+pub use list::List;
 pub use marks::marked_trace;
 pub use pod::pod_script;
 pub use rng::Rng;
+pub use spoilt::spoilt_list;
 pub use stand_in::stand_in_script;
 pub use talk::talk_script;
 pub use trace::random_trace;

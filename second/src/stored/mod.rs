@@ -14,12 +14,14 @@ mod halt;
 mod illegal;
 mod lanes;
 mod marks;
+mod mend;
 mod pages;
 mod pod;
 mod sequences;
 mod traces;
 mod typed;
 mod unclear;
+mod unmend;
 
 use std::fs;
 use std::path::Path;
@@ -64,6 +66,8 @@ pub fn all() -> Vec<Stored> {
     stored.extend(pages::all());
     stored.extend(marks::all());
     stored.extend(gateway::all());
+    stored.extend(mend::all());
+    stored.extend(unmend::all());
     stored
 }
 
