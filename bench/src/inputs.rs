@@ -133,6 +133,26 @@ pub fn jumble() -> Vec<u8> {
     })
 }
 
+/// The same instructions and transfers over a long cable: of every hundred cycles about one has a bit flipped, and the end is lost.
+pub fn dropouts() -> Vec<u8> {
+    let mut rng = Rng::new(10);
+    let mut trace = transfers();
+    for byte in &mut trace {
+        if rng.once_in(100) {
+            *byte ^= 1 << rng.below(8);
+        }
+    }
+    // A marker of four bytes in the last cycle but three.
+    trace[SIZE - 4] = 0xB0;
+    trace
+}
+
+/// Nothing but noise: about every other cycle is a reserved PST or a marker.
+pub fn noise_recorded(seed: u64, cycles: usize) -> Vec<u8> {
+    let mut rng = Rng::new(seed);
+    (0..cycles).map(|_| rng.below(0x100) as u8).collect()
+}
+
 /// A marker, and the cycles that carry its bytes.
 fn transfer(rng: &mut Rng, trace: &mut Vec<u8>, steps: &[u8]) {
     let bytes = rng.between(1, 4);

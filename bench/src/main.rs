@@ -1,5 +1,5 @@
-//! `bench`: the proved run of packets, listing, page and events against the second program's, interleaved, in rounds, and the proved page
-//! against the proved listing. `bench agree` only shows that the two agree, on more events than are timed, and `bench names` what there is
+//! `bench`: the proved run of packets, listing, page, mending and events against the second program's, interleaved, in rounds, and the proved page
+//! against the proved listing. `bench agree` only shows that the two agree, on more events and traces than are timed, and `bench names` what there is
 //! to measure. `bench count WHAT WHOSE TIMES` does one of them so many times and nothing else, so that its instructions can be counted.
 
 mod inputs;
@@ -13,7 +13,7 @@ use work::Work;
 
 const USAGE: &str = "usage: bench | bench agree | bench names | bench count WHAT ours|second TIMES";
 
-fn contests() -> [Contest; 15] {
+fn contests() -> [Contest; 18] {
     [
         packets("packets, slot table", || Work::on_packets(inputs::table())),
         packets("packets, registers", || Work::on_packets(inputs::registers())),
@@ -27,6 +27,9 @@ fn contests() -> [Contest; 15] {
         by_listing("page by listing, transfers", || Work::on_trace(inputs::transfers())),
         by_listing("page by listing, stops", || Work::on_trace(inputs::stops())),
         by_listing("page by listing, jumble", || Work::on_trace(inputs::jumble())),
+        mend("mend, readable", || Work::on_damaged(inputs::transfers())),
+        mend("mend, dropouts", || Work::on_damaged(inputs::dropouts())),
+        mend("mend, noise", || Work::on_damaged(inputs::noise_recorded(11, inputs::SIZE))),
         events("events, data", || Work::on_events(inputs::data())),
         events("events, PC", || Work::on_events(inputs::pc())),
         events("events, two levels", || Work::on_events(inputs::two_levels())),
@@ -50,6 +53,10 @@ fn by_listing(what: &'static str, input: fn() -> Work) -> Contest {
     Contest { what, input, ours: Work::page_ours, second: Work::list_ours, other: "listing" }
 }
 
+fn mend(what: &'static str, input: fn() -> Work) -> Contest {
+    Contest { what, input, ours: Work::mend_ours, second: Work::mend_second, other: "second" }
+}
+
 fn events(what: &'static str, input: fn() -> Work) -> Contest {
     Contest { what, input, ours: Work::events_ours, second: Work::events_second, other: "second" }
 }
@@ -63,12 +70,25 @@ fn agree_on_any_events() -> Result<(), String> {
     }
 }
 
+/// The way back is not timed.
+fn agree_on_the_way_back() -> Result<(), String> {
+    let trace = |seed: u64| inputs::noise_recorded(seed, seed as usize % 300);
+    match (0..2_048).find(|&seed| !work::agrees_back(trace(seed), 1 << (seed % 20))) {
+        None => Ok(()),
+        Some(seed) => Err(format!("a trace of seed {seed}, mended and put back: the two do not agree")),
+    }
+}
+
+fn agree_untimed() -> Result<(), String> {
+    agree_on_any_events().and_then(|()| agree_on_the_way_back())
+}
+
 fn main() -> ExitCode {
     let arguments: Vec<String> = std::env::args().skip(1).collect();
     let arguments: Vec<&str> = arguments.iter().map(String::as_str).collect();
     let done = match arguments[..] {
-        [] => agree_on_any_events().and_then(|()| contests().iter().try_for_each(Contest::hold)),
-        ["agree"] => agree_on_any_events().and_then(|()| contests().iter().try_for_each(Contest::agree)),
+        [] => agree_untimed().and_then(|()| contests().iter().try_for_each(Contest::hold)),
+        ["agree"] => agree_untimed().and_then(|()| contests().iter().try_for_each(Contest::agree)),
         ["names"] => {
             contests().iter().for_each(|contest| println!("{}", contest.what));
             Ok(())

@@ -1,4 +1,4 @@
-//! The proved libraries' four functions. A slice crosses as its address and its length.
+//! The proved libraries' six functions. A slice crosses as its address and its length.
 
 mod linked {
     extern "C" {
@@ -23,6 +23,15 @@ mod linked {
             index: *mut u32,
             index_length: usize,
         ) -> u64;
+        pub fn yarkovesh_mend(
+            trace: *const u8,
+            trace_length: usize,
+            bytes: *mut u8,
+            bytes_length: usize,
+            words: *mut u32,
+            words_length: usize,
+        ) -> u64;
+        pub fn yarkovesh_unmend(trace: *mut u8, trace_length: usize, words: *const u32, words_length: usize) -> u32;
         pub fn yarkovesh_events(
             registers: *const [u32; 10],
             events: *const u32,
@@ -82,6 +91,27 @@ pub fn page(trace: &[u8], numbers: &mut Numbers, index: &mut [u32]) -> u64 {
             index.len(),
         )
     }
+}
+
+/// The number of changed cycles; or the number of the refusal times 2^32.
+pub fn mend(trace: &[u8], mended: &mut [u8], list: &mut [u32]) -> u64 {
+    // SAFETY: as above.
+    unsafe {
+        linked::yarkovesh_mend(
+            trace.as_ptr(),
+            trace.len(),
+            mended.as_mut_ptr(),
+            mended.len(),
+            list.as_mut_ptr(),
+            list.len(),
+        )
+    }
+}
+
+/// Whether the list is the trace's, which is then as it was recorded.
+pub fn unmend(trace: &mut [u8], list: &[u32]) -> bool {
+    // SAFETY: as above.
+    unsafe { linked::yarkovesh_unmend(trace.as_mut_ptr(), trace.len(), list.as_ptr(), list.len()) == 1 }
 }
 
 /// Events on a board as set up: 0, or the number of the refusal.

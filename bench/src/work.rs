@@ -4,6 +4,7 @@ use crate::inputs::{self, Events, Packets, DEBUG_REGISTERS};
 use crate::ours::{self, Numbers};
 use second::board::Board;
 use second::events::{Access, Event, EventAnswer, Mark};
+use second::mend::{mend, unmend};
 use second::page::{index_length, make_page, Entry, Rate};
 use second::pod::Request;
 use second::refusal::{Ground, Refusal};
@@ -21,6 +22,8 @@ pub struct Work {
     numbers: Numbers,
     index: Vec<u32>,
     entries: Vec<Entry>,
+    mended: Vec<u8>,
+    list: Vec<u32>,
     registers: [u32; DEBUG_REGISTERS.len()],
     events: Vec<u32>,
     answers: Vec<u32>,
@@ -37,6 +40,13 @@ impl Work {
         let index = vec![0; index_length(&trace)];
         let entries = vec![Entry::default(); index.len()];
         Work { trace, words, index, entries, ..Work::default() }
+    }
+
+    /// With as much room as any list may take.
+    pub fn on_damaged(trace: Vec<u8>) -> Work {
+        let mended = vec![0; trace.len()];
+        let list = vec![0; trace.len()];
+        Work { trace, mended, list, ..Work::default() }
     }
 
     pub fn on_events(input: Events) -> Work {
@@ -87,6 +97,15 @@ impl Work {
         }
     }
 
+    /// The number of changed cycles; or the number of the refusal times 2^32.
+    pub fn mend_ours(&mut self) -> u64 {
+        ours::mend(&self.trace, &mut self.mended, &mut self.list)
+    }
+
+    pub fn mend_second(&mut self) -> u64 {
+        mend(&self.trace, &mut self.mended, &mut self.list).map_or_else(numbered, |changed| changed as u64)
+    }
+
     /// 0, or the number of the refusal.
     pub fn events_ours(&mut self) -> u64 {
         u64::from(ours::events(&self.registers, &self.events, &mut self.answers))
@@ -128,9 +147,26 @@ impl Work {
             && left.replies == right.replies
             && left.words == right.words
             && left.numbers == right.numbers
+            && left.mended == right.mended
+            && left.list == right.list
             && left.answers == right.answers
             && Work::told(&left.index) == Work::told_second(&right.entries)
     }
+}
+
+/// Both ways back from a mended trace give what was recorded, and neither takes a list of which a word was changed unless the other does.
+pub fn agrees_back(trace: Vec<u8>, spoilt: u32) -> bool {
+    let mut work = Work::on_damaged(trace);
+    let changed = work.mend_ours() as usize;
+    let mut list = work.list[..changed].to_vec();
+    let mut back = work.mended.clone();
+    let right = ours::unmend(&mut back, &list) && back == work.trace;
+    if let Some(word) = list.first_mut() {
+        *word ^= spoilt;
+    }
+    let mut other = work.mended.clone();
+    let taken = ours::unmend(&mut other, &list);
+    right && (taken, other) == unmend(&work.mended, &list).map_or((false, work.mended), |recorded| (true, recorded))
 }
 
 fn numbered(refusal: Refusal) -> u64 {

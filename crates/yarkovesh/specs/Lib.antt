@@ -1,5 +1,6 @@
 pub mod Exported
 pub mod ExportedPage
+pub mod ExportedMend
 pub mod ExportedLaws
 pub mod ExportedPageLaws
 pub mod ExportedUnique

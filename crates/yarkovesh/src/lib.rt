@@ -1,9 +1,13 @@
-// For programs in other languages: a run of packets on a fresh board, the listing of a trace, and its page. `rt staticlib yarkovesh` writes the archive.
+// For programs in other languages: a run of packets on a fresh board, the listing of a trace, its page, and a trace mended.
+// `rt staticlib yarkovesh` writes the archive.
 ghost use mathlib.Core.Path.{_≡_};
 ghost use Rattle.yarkovesh.specs.Exported.{verdictNumber, listingNumber, FreshRunMeets, ListMeets};
 ghost use Rattle.yarkovesh.specs.ExportedPage.{rows, PageNumbersMeet};
+ghost use Rattle.yarkovesh.specs.ExportedMend.{MendNumberMeets, UnmendNumberMeets};
 ghost use Rattle.trace.specs.TraceReading.{toldListing as told};
+ghost use Rattle.mending.specs.MendingAnswer.{toldMending};
 use grounds::Verdict;
+use mending::Mending;
 use summary::page;
 use trace::Listing;
 
@@ -96,4 +100,33 @@ pub extern "C" fn yarkovesh_page(
             listing_number(judged)
         }
     }
+}
+
+fn mending_number(mended: Mending) -> u64
+    ensures { λ r. ⌜ r ≡ listingNumber (toldMending mended) ⌝ }
+{
+    match mended {
+        Mending::Changed(changed) => changed as u64,
+        Mending::Refused(ground) => (grounds::number_of(ground) as u64) * 0x100000000,
+    }
+}
+
+// A trace mended, and a word for each changed cycle: how many there are, or the ground's number times 2^32.
+#[no_mangle]
+pub extern "C" fn yarkovesh_mend(trace: &[u8], bytes: &mut [u8], words: &mut [u32]) -> u64
+    ensures { λ r. ⌜ MendNumberMeets (now (trace .entry)) (now (bytes .entry)) (now (words .entry)) r (now (bytes .exit)) (now (words .exit)) ⌝ }
+{
+    let mended = mending::mend_trace(trace, bytes, words);
+    mending_number(mended)
+}
+
+// The way back: 1, and the trace is as it was recorded; 0 where the words are not this trace's list, and the trace stays.
+#[no_mangle]
+pub extern "C" fn yarkovesh_unmend(trace: &mut [u8], words: &[u32]) -> u32
+    ensures { λ r. ⌜ UnmendNumberMeets (now (trace .entry)) (now (words .entry)) r (now (trace .exit)) ⌝ }
+{
+    if unmending::unmend_trace(trace, words) {
+        return 1;
+    }
+    0
 }
