@@ -10,7 +10,6 @@ use lib.Dec.{eqb, ltb}
 use lib.ListN.{length, getD}
 use borrow.Author.Tests.{eqb-true, eqb-false, ltb-true, ne-eqb}
 use Rattle.laws.specs.TestLaws.{by-test}
-use Rattle.cycle.specs.declared.Carried.{Carried}
 use Rattle.cycle.specs.Cycle.{pst, ddata, marker, reserved, tooSoon}
 use Rattle.trace.specs.TraceReadableLaws.{Readable}
 use Rattle.mending.specs.Mending.{kept, found, cutShort, mendedPst, mended, changeWord, changesBefore, changes}
@@ -25,10 +24,10 @@ reserved-small p e = by-test (eqb p 2) (λ t. omega (arith, eqb-true p 2 t)) (λ
 marker-small : (p : ℕ) → marker p ≡ true → p < 16
 marker-small p e = by-test (ltb p 8) (λ t. omega (arith, ltb-true p 8 t)) (λ t. omega (arith, ltb-true p 12 (rw t at e)))
 
-wiped-small : (c : Carried) (p : ℕ) → (kept c p ≡ p → ⊥) → p < 16
+wiped-small : (due p : ℕ) → (kept due p ≡ p → ⊥) → p < 16
 unfolding kept
-wiped-small c p differs =
-    by-test (reserved p) (reserved-small p) (λ r. by-test (tooSoon (c .due) p) (λ s. soon (ltb (c .due) 2) s) (λ s. absurd (differs (rw (r, s)))))
+wiped-small due p differs =
+    by-test (reserved p) (reserved-small p) (λ r. by-test (tooSoon due p) (λ s. soon (ltb due 2) s) (λ s. absurd (differs (rw (r, s)))))
   where
     soon : (t : Bool) → cond t false (marker p) ≡ true → p < 16
     soon true e = let z : _≡_ {A = ℕ} 0 1 = cc in absurd (omega arith)
@@ -49,10 +48,10 @@ module _ (trace : List ℕ) (i : ℕ) (h : i < length trace) (differs : mendedPs
       cut : i ≡ cutShort trace → pst trace i < 16
       cut e =
           let a = cut-announced trace (λ none. omega (arith, cut-none trace none)) in
-          kept-marker-small (kept-or-wiped (found trace i) (pst trace i)) (rw e (a .stands))
+          kept-marker-small (kept-or-wiped (found trace i .due) (pst trace i)) (rw e (a .stands))
 
       other : (i ≡ cutShort trace → ⊥) → pst trace i < 16
-      other e = wiped-small (found trace i) (pst trace i) (λ same. differs (elsewhere trace i e ∙ same))
+      other e = wiped-small (found trace i .due) (pst trace i) (λ same. differs (elsewhere trace i e ∙ same))
 
   -- what was changed is 0
   pub changed-wiped : mendedPst trace i ≡ 0

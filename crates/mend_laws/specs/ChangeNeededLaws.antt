@@ -8,7 +8,6 @@ use lib.Dec.{eqb, ltb}
 use lib.ListN.{length}
 use borrow.Author.Tests.{eqb-true, eqb-false, lt-ltb, le-ltb}
 use Rattle.laws.specs.TestLaws.{by-test}
-use Rattle.cycle.specs.declared.Carried.{Carried}
 use Rattle.cycle.specs.Cycle.{pst, reserved, tooSoon, carriedInto}
 use Rattle.trace.specs.TraceReading.{refusal, reading}
 use Rattle.trace.specs.TraceReadableLaws.{Passes, refused-reserved, refused-too-soon, refused-cut}
@@ -49,14 +48,14 @@ module _ (trace : List ℕ) (i : ℕ) (h : i ≤ length trace) where
   passes-so-far j k =
       let there : pst (soFar trace i) j ≡ keptAt trace j = retold-pst (pstSoFar trace i) trace (length trace) j (omega arith) ∙ mended-before j k in
       record {
-        unreserved = rw there (kept-unreserved (found trace j) (pst trace j));
-        in-time = rw (there, found-so-far j (omega arith)) (kept-in-time (found trace j) (pst trace j));
+        unreserved = rw there (kept-unreserved (found trace j .due) (pst trace j));
+        in-time = rw (there, found-so-far j (omega arith)) (kept-in-time (found trace j .due) (pst trace j));
       }
 
 -- a PST that is not kept is reserved, or comes too soon
-not-kept : (c : Carried) (p : ℕ) → reserved p ≡ false → (kept c p ≡ p → ⊥) → tooSoon (c .due) p ≡ true
+not-kept : (due p : ℕ) → reserved p ≡ false → (kept due p ≡ p → ⊥) → tooSoon due p ≡ true
 unfolding kept
-not-kept c p e differs = by-test (tooSoon (c .due) p) (λ t. t) (λ t. absurd (differs (rw (e, t))))
+not-kept due p e differs = by-test (tooSoon due p) (λ t. t) (λ t. absurd (differs (rw (e, t))))
 
 module _ (trace : List ℕ) (short : length trace ≤ 65536) (i : ℕ) (h : i < length trace) where
   as-recorded : pst (soFar trace i) i ≡ pst trace i
@@ -82,7 +81,7 @@ module _ (trace : List ℕ) (short : length trace ≤ 65536) (i : ℕ) (h : i < 
       soon e =
           too-soon-there (
           refused-too-soon (soFar trace i) fits i there before (rw as-recorded e)
-          (rw (as-recorded, found-so-far trace i (omega arith) i (omega arith)) (not-kept (found trace i) (pst trace i) e differs))
+          (rw (as-recorded, found-so-far trace i (omega arith) i (omega arith)) (not-kept (found trace i .due) (pst trace i) e differs))
           )
 
   -- by the third

@@ -4,3 +4,4 @@ pub mod MendedOnceLaws
 pub mod ChangeListLaws
 pub mod ChangeNeededLaws
 pub mod PutBackLaws
+pub mod MendRoomLaws

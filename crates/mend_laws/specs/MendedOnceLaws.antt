@@ -6,7 +6,6 @@ use mathlib.Core.List.{List, []}
 use native.Mathlib.Omega.{arith}
 use lib.ListN.{length}
 use borrow.Author.Tests.{eq-eqb}
-use Rattle.cycle.specs.declared.Carried.{Carried}
 use Rattle.cycle.specs.Cycle.{pst, reserved, tooSoon, carriedInto}
 use Rattle.trace.specs.TraceReading.{counted, reading}
 use Rattle.trace.specs.TraceReadableLaws.{Passes, Readable, read-readable}
@@ -15,9 +14,9 @@ use Rattle.mending.specs.MendingLaws.{elsewhere, cut-none}
 use Rattle.mend_laws.specs.RetoldLaws.{retold-same}
 use Rattle.mend_laws.specs.MendedReadableLaws.{mended-passes}
 
-passing-kept : (c : Carried) (p : ℕ) → reserved p ≡ false → tooSoon (c .due) p ≡ false → kept c p ≡ p
+passing-kept : (due p : ℕ) → reserved p ≡ false → tooSoon due p ≡ false → kept due p ≡ p
 unfolding kept
-passing-kept c p e f = rw (e, f)
+passing-kept due p e f = rw (e, f)
 
 module _ (trace : List ℕ) (readable : Readable trace) where
   -- what the rules find is what the trace has under way
@@ -26,14 +25,14 @@ module _ (trace : List ℕ) (readable : Readable trace) where
   found-carried zero h = refl
   found-carried (suc i) h =
       let p = readable .passes i (omega arith) in
-      rw (found-carried i (omega arith), passing-kept (carriedInto trace i) (pst trace i) (p .unreserved) (p .in-time))
+      rw (found-carried i (omega arith), passing-kept (carriedInto trace i .due) (pst trace i) (p .unreserved) (p .in-time))
 
   readable-kept : (i : ℕ) → i < length trace → mendedPst trace i ≡ pst trace i
   readable-kept i h =
       let p = readable .passes i h in
       let uncut : found trace (length trace) .due ≡ 0 = rw (found-carried (length trace) (omega arith)) (readable .whole) in
       elsewhere trace i (λ e. omega (arith, cut-none trace uncut))
-      ∙ rw (found-carried i (omega arith)) (passing-kept (carriedInto trace i) (pst trace i) (p .unreserved) (p .in-time))
+      ∙ rw (found-carried i (omega arith)) (passing-kept (carriedInto trace i .due) (pst trace i) (p .unreserved) (p .in-time))
 
   none-listed : (i : ℕ) → i ≤ length trace → changesBefore trace i ≡ []
   unfolding changesBefore

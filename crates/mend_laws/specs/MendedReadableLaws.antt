@@ -8,7 +8,6 @@ use lib.Dec.{eqb, ltb}
 use lib.ListN.{length}
 use borrow.Author.Tests.{eqb-true, eqb-false, ltb-true, ltb-false}
 use Rattle.laws.specs.TestLaws.{by-test}
-use Rattle.cycle.specs.declared.Carried.{Carried}
 use Rattle.cycle.specs.Cycle.{pst, marker, reserved, tooSoon, after, carriedInto}
 use Rattle.cycle.specs.CycleLaws.{never}
 use Rattle.trace.specs.Items.{items}
@@ -20,23 +19,23 @@ use Rattle.mending.specs.MendingStoreLaws.{retold-length}
 use Rattle.mend_laws.specs.RetoldLaws.{retold-pst}
 
 -- what the first two rules keep passes
-module _ (c : Carried) (p : ℕ) where
-  pub kept-unreserved : reserved (kept c p) ≡ false
+module _ (due p : ℕ) where
+  pub kept-unreserved : reserved (kept due p) ≡ false
   unfolding kept
-  kept-unreserved = by-tests (reserved p) (tooSoon (c .due) p) refl
+  kept-unreserved = by-tests (reserved p) (tooSoon due p) refl
     where
       by-tests : (r s : Bool) → reserved p ≡ r → reserved (cond r 0 (cond s 0 p)) ≡ false
       by-tests true s e = refl
       by-tests false true e = refl
       by-tests false false e = e
 
-  pub kept-in-time : tooSoon (c .due) (kept c p) ≡ false
+  pub kept-in-time : tooSoon due (kept due p) ≡ false
   unfolding kept
-  kept-in-time = by-tests (reserved p) (tooSoon (c .due) p) refl
+  kept-in-time = by-tests (reserved p) (tooSoon due p) refl
     where
-      by-tests : (r s : Bool) → tooSoon (c .due) p ≡ s → tooSoon (c .due) (cond r 0 (cond s 0 p)) ≡ false
-      by-tests true s e = sym (never (c .due))
-      by-tests false true e = sym (never (c .due))
+      by-tests : (r s : Bool) → tooSoon due p ≡ s → tooSoon due (cond r 0 (cond s 0 p)) ≡ false
+      by-tests true s e = sym (never due)
+      by-tests false true e = sym (never due)
       by-tests false false e = e
 
 -- a trace whose PSTs are what the two rules keep, up to a cycle, has there under way what they find
@@ -60,8 +59,8 @@ none-later trace (suc n) i h k = by-tests (marker (keptAt trace n)) (eqb i n) re
     by-tests false false e f l before = before l (omega (arith, eqb-false i n f))
 
 -- a marker that the two rules keep comes where one nibble at most is due
-kept-marker-due : (c : Carried) (p : ℕ) → marker (kept c p) ≡ true → c .due - 1 ≡ 0
-kept-marker-due c p e = by-test (ltb (c .due) 2) (λ t. omega (arith, ltb-true (c .due) 2 t)) (λ t. absurd (false≢true (sym (kept-in-time c p) ∙ rw (t, e))))
+kept-marker-due : (due p : ℕ) → marker (kept due p) ≡ true → due - 1 ≡ 0
+kept-marker-due due p e = by-test (ltb due 2) (λ t. omega (arith, ltb-true due 2 t)) (λ t. absurd (false≢true (sym (kept-in-time due p) ∙ rw (t, e))))
 
 -- where there is no marker, a nibble less is due
 due-falls : (trace : List ℕ) (i : ℕ) → marker (pst trace i) ≡ false → carriedInto trace (suc i) .due ≡ carriedInto trace i .due - 1
@@ -89,7 +88,8 @@ module _ (trace : List ℕ) where
         wiped-falls same =
             let none : marker (pst (mended trace) i) ≡ false = rw (pst-mended i (omega arith), same, at-cut trace) in
             due-falls (mended trace) i none
-            ∙ rw (carried-to-cut i (omega arith) (omega arith), same) (kept-marker-due (found trace (cutShort trace)) (pst trace (cutShort trace)) (a .stands))
+            ∙ rw (carried-to-cut i (omega arith) (omega arith), same)
+            (kept-marker-due (found trace (cutShort trace) .due) (pst trace (cutShort trace)) (a .stands))
 
         stays-none : (i ≡ cutShort trace → ⊥) → carriedInto (mended trace) i .due ≡ 0 → carriedInto (mended trace) (suc i) .due ≡ 0
         stays-none other before =
@@ -118,7 +118,7 @@ module _ (trace : List ℕ) where
       kept-there e = pst-mended i h ∙ elsewhere trace i e
 
       before : (i ≡ cutShort trace → ⊥) → i < cutShort trace → tooSoon (carriedInto (mended trace) i .due) (pst (mended trace) i) ≡ false
-      before e l = rw (kept-there e, carried-to-cut i (omega arith) (omega arith)) (kept-in-time (found trace i) (pst trace i))
+      before e l = rw (kept-there e, carried-to-cut i (omega arith) (omega arith)) (kept-in-time (found trace i .due) (pst trace i))
 
       behind : cutShort trace < i → tooSoon (carriedInto (mended trace) i .due) (pst (mended trace) i) ≡ false
       behind l = rw (none-due (λ none. omega (arith, cut-none trace none)) i l (omega arith))
@@ -126,7 +126,7 @@ module _ (trace : List ℕ) where
       other : (i ≡ cutShort trace → ⊥) → Passes (mended trace) i
       other e =
           record {
-            unreserved = rw (kept-there e) (kept-unreserved (found trace i) (pst trace i));
+            unreserved = rw (kept-there e) (kept-unreserved (found trace i .due) (pst trace i));
             in-time = by-test (ltb i (cutShort trace))
                 (λ t. before e (ltb-true i (cutShort trace) t))
                 (λ t. behind (omega (arith, ltb-false i (cutShort trace) t)));

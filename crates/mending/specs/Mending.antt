@@ -7,18 +7,18 @@ use lib.ListN.{length}
 use Rattle.cycle.specs.declared.Carried.{Carried}
 use Rattle.cycle.specs.Cycle.{pst, ddata, marker, reserved, tooSoon, nothing, after}
 
--- "a reserved PST becomes 0; a marker that would get ground 9 becomes PST 0": what is kept of the PST p where c is under way
-unfoldable pub kept : Carried → ℕ → ℕ
-kept c p = cond (reserved p) 0 (cond (tooSoon (c .due) p) 0 p)
+-- "a reserved PST becomes 0; a marker that would get ground 9 becomes PST 0": what is kept of the PST p where so many nibbles are due
+unfoldable pub kept : ℕ → ℕ → ℕ
+kept due p = cond (reserved p) 0 (cond (tooSoon due p) 0 p)
 
 -- "The first two are judged from the first cycle on, over what has been mended so far": what cycle i finds under way there
 unfoldable pub found : List ℕ → ℕ → Carried
 found trace zero = nothing
-found trace (suc i) = after (found trace i) (kept (found trace i) (pst trace i))
+found trace (suc i) = after (found trace i) (kept (found trace i .due) (pst trace i))
 
 -- the PST of cycle i as these two leave it
 abbrev pub keptAt : List ℕ → ℕ → ℕ
-keptAt trace i = kept (found trace i) (pst trace i)
+keptAt trace i = kept (found trace i .due) (pst trace i)
 
 -- the cycle of the latest marker before cycle i
 unfoldable pub latestMarker : List ℕ → ℕ → ℕ

@@ -49,7 +49,7 @@ module _ (trace : List ℕ) where
           → wipes (pst trace i) (mendedPst trace i) + one (ltb (cutShort trace) i) ≡ wipes (pst trace i) (keptAt trace i) + one (ltb (cutShort trace) (suc i))
       here e =
           let same : i ≡ cutShort trace = eqb-true _ _ e in
-          let own = own-marker (kept-or-wiped (found trace i) (pst trace i)) (rw (sym same) at (a (omega arith) .stands)) in
+          let own = own-marker (kept-or-wiped (found trace i .due) (pst trace i)) (rw (sym same) at (a (omega arith) .stands)) in
           rw (rw (sym same) at (at-cut trace), own .0, own .1, le-ltb (cutShort trace) i (omega arith), lt-ltb (cutShort trace) (suc i) (omega arith))
 
       there : eqb i (cutShort trace) ≡ false

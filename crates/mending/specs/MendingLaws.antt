@@ -9,8 +9,7 @@ use lib.Dec.{eqb}
 use lib.ListN.{length}
 use borrow.Author.Tests.{eq-eqb, ne-eqb}
 use Rattle.laws.specs.TestLaws.{either}
-use Rattle.cycle.specs.declared.Carried.{Carried}
-use Rattle.cycle.specs.Cycle.{pst, ddata, marker, nibbles, reserved, tooSoon, after}
+use Rattle.cycle.specs.Cycle.{pst, ddata, marker, nibbles, dueAfter, reserved, tooSoon, after}
 use Rattle.mending.specs.Mending.{kept, found, keptAt, latestMarker, cutShort, mendedPst, retold, changeWord, changesBefore}
 
 -- the first two rules keep a PST or wipe it
@@ -18,9 +17,9 @@ pub data Kept (p : ℕ) : ℕ → Type 0 where
   same : Kept p p
   wiped : Kept p 0
 
-pub kept-or-wiped : (c : Carried) (p : ℕ) → Kept p (kept c p)
+pub kept-or-wiped : (due p : ℕ) → Kept p (kept due p)
 unfolding kept
-kept-or-wiped c p = either (Kept p) (reserved p) _ _ (λ e. wiped) (λ e. either (Kept p) (tooSoon (c .due) p) _ _ (λ f. wiped) (λ f. same))
+kept-or-wiped due p = either (Kept p) (reserved p) _ _ (λ e. wiped) (λ e. either (Kept p) (tooSoon due p) _ _ (λ f. wiped) (λ f. same))
 
 kept-le : {p k : ℕ} → Kept p k → k ≤ p
 kept-le same = omega arith
@@ -28,14 +27,14 @@ kept-le wiped = omega arith
 
 -- one cycle more
 module _ (trace : List ℕ) (i : ℕ) where
-  pub found-next : (c : Carried) → c ≡ found trace i → after c (kept c (pst trace i)) ≡ found trace (i + 1)
-  unfolding found
-  found-next c e = rw (add-one i, e)
+  pub due-next : {due k : ℕ} → due ≡ found trace i .due → k ≡ kept due (pst trace i) → dueAfter due k ≡ found trace (i + 1) .due
+  unfolding found after
+  due-next due-is k-is = rw (add-one i, k-is, due-is)
 
-  pub left-of : {c : Carried} {cut k left : ℕ} → c ≡ found trace i → cut ≡ cutShort trace → k ≡ kept c (pst trace i) → left ≡ cond (eqb i cut) 0 k
+  pub left-of : {due cut k left : ℕ} → due ≡ found trace i .due → cut ≡ cutShort trace → k ≡ kept due (pst trace i) → left ≡ cond (eqb i cut) 0 k
       → left ≡ mendedPst trace i
   unfolding mendedPst
-  left-of c-is cut-is k-is left-is = rw (left-is, k-is, c-is, cut-is)
+  left-of due-is cut-is k-is left-is = rw (left-is, k-is, due-is, cut-is)
 
   pub latest-next : cond (marker (keptAt trace i)) i (latestMarker trace i) ≡ latestMarker trace (i + 1)
   unfolding latestMarker
@@ -53,7 +52,7 @@ module _ (trace : List ℕ) (i : ℕ) where
 pub mended-or-wiped : (trace : List ℕ) (i : ℕ) → Kept (pst trace i) (mendedPst trace i)
 unfolding mendedPst
 mended-or-wiped trace i =
-    either (Kept (pst trace i)) (eqb i (cutShort trace)) 0 (keptAt trace i) (λ e. wiped) (λ e. kept-or-wiped (found trace i) (pst trace i))
+    either (Kept (pst trace i)) (eqb i (cutShort trace)) 0 (keptAt trace i) (λ e. wiped) (λ e. kept-or-wiped (found trace i .due) (pst trace i))
 
 pub mended-at-most : (trace : List ℕ) (i : ℕ) → mendedPst trace i ≤ pst trace i
 mended-at-most trace i = kept-le (mended-or-wiped trace i)

@@ -1,5 +1,4 @@
 // A trace with dropouts, mended into a lent buffer, with the list of what was changed.
-use cycle::Carried;
 use grounds::Ground;
 ghost use mathlib.Core.Path.{_≡_};
 ghost use mathlib.Core.Bool.{cond};
@@ -7,7 +6,7 @@ ghost use Prim.Native.Nat.{_+_, _≤_, _<_};
 ghost use lib.Dec.{eqb};
 ghost use lib.ListN.{length};
 ghost use lib.Seq.{sets};
-ghost use Rattle.cycle.specs.Cycle.{marker};
+ghost use Rattle.cycle.specs.Cycle.{marker, dueAfter};
 ghost use Rattle.laws.specs.StoredMirror.{Stored};
 ghost use Rattle.mending.specs.Mending.{kept, cutShort, mended, changeWord, changes};
 ghost use Rattle.mending.specs.MendingAnswer.{MendingMeets};
@@ -26,17 +25,27 @@ pub struct Survey {
     pub cut: usize,
 }
 
-// What the first two rules keep of a PST.
-fn keep_pst(carried: Carried, pst: u8) -> u8
-    ensures { λ r. ⌜ r ≡ kept carried pst ⌝ }
+// What the first two rules keep of a PST where so many nibbles are due.
+fn keep_pst(due: u8, pst: u8) -> u8
+    ensures { λ r. ⌜ r ≡ kept due pst ⌝ }
 {
     if cycle::is_reserved(pst) {
         return 0;
     }
-    if cycle::comes_too_soon(carried.due, pst) {
+    if cycle::comes_too_soon(due, pst) {
         return 0;
     }
     pst
+}
+
+// What is due after a cycle.
+fn due_after(due: u8, pst: u8) -> u8
+    ensures { λ r. ⌜ r ≡ dueAfter due pst ⌝ }
+{
+    if cycle::is_marker(pst) {
+        return cycle::count_nibbles(pst);
+    }
+    if due == 0 { 0 } else { due - 1 }
 }
 
 // One where a PST was changed.
@@ -71,19 +80,19 @@ fn leave_pst(kept: u8, i: usize, cut: usize) -> u8
 fn survey_trace(trace: &[u8]) -> Survey
     ensures { λ r. ⌜ Surveyed (now (trace .entry)) r ⌝ }
 {
-    let mut carried = cycle::nothing_carried();
+    let mut due = 0u8;
     let mut changed = 0usize;
     let mut latest = 0usize;
     let mut i = 0usize;
     while i < trace.len() {
         let pst = trace[i] / 16;
-        let kept = keep_pst(carried, pst);
+        let kept = keep_pst(due, pst);
         changed += count_wiped(pst, kept);
         latest = latest_of(latest, i, kept);
-        carried = cycle::after_cycle(carried, kept);
+        due = due_after(due, kept);
         i += 1;
     }
-    if carried.due == 0 {
+    if due == 0 {
         return Survey {
             changed,
             cut: trace.len(),
@@ -114,17 +123,17 @@ fn put_mended(trace: &[u8], bytes: &mut [u8], list: &mut [u32], cut: usize)
     ensures { λ _. ⌜ now (bytes .exit) ≡ sets (now (bytes .entry)) 0 (mended (now (trace .entry))) ⌝ }
     ensures { λ _. ⌜ now (list .exit) ≡ sets (now (list .entry)) 0 (changes (now (trace .entry))) ⌝ }
 {
-    let mut carried = cycle::nothing_carried();
+    let mut due = 0u8;
     let mut at = 0usize;
     let mut i = 0usize;
     while i < trace.len() {
         let byte = trace[i];
         let pst = byte / 16;
-        let kept = keep_pst(carried, pst);
+        let kept = keep_pst(due, pst);
         let left = leave_pst(kept, i, cut);
         bytes[i] = left * 16 + byte % 16;
         at = put_change(list, at, i, pst, left);
-        carried = cycle::after_cycle(carried, kept);
+        due = due_after(due, kept);
         i += 1;
     }
 }

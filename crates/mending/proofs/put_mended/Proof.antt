@@ -1,34 +1,31 @@
 -- The loop's invariant: both buffers have what the cycles before cycle i come to.
 use mathlib.Core.Path.{_≡_, refl, _∙_}
-use Prim.Native.Nat.{_+_, _-_, _≤_}
+use Prim.Native.Nat.{_-_, _≤_}
 use native.Mathlib.Omega.{arith}
 use borrow.Author.Needs.{needs}
 use lib.ListN.{length}
 use lib.Seq.{sets}
 use Rattle.laws.specs.StoreLaws.{length-stored}
 use Rattle.mending.specs.Mending.{found, mendedPst, retold, changesBefore}
-use Rattle.mending.specs.MendingLaws.{found-next, left-of, mended-at-most}
+use Rattle.mending.specs.MendingLaws.{due-next, left-of, mended-at-most}
 use Rattle.mending.specs.MendingStoreLaws.{changes-counted, change-fits, mended-more, changes-more}
 use Rattle.mending.proofs.put_mended.Statement.{statement}
 use Rattle.mending.proofs.put_mended.Tie as tie
 
 abbrev Inv-loop : tie.InvT-loop
-Inv-loop trace bytes₀ list₀ cut carried₀ at₀ i₀ bytes list carried at i =
+Inv-loop trace bytes₀ list₀ cut due₀ at₀ i₀ bytes list due at i =
     (i ≤ length trace)
-    × (carried ≡ found trace i)
+    × (due ≡ found trace i .due)
     × (at ≡ length (changesBefore trace i))
     × (bytes ≡ sets bytes₀ 0 (retold (mendedPst trace) trace i))
     × (list ≡ sets list₀ 0 (changesBefore trace i))
 
 abbrev μ-loop : tie.MeasureT-loop
-μ-loop trace bytes₀ list₀ cut carried₀ at₀ i₀ bytes list carried at i = length trace - i
-
-nothing-carried-requires : tie.Need-nothing-carried-requires Inv-loop μ-loop
-nothing-carried-requires c κs = search needs
+μ-loop trace bytes₀ list₀ cut due₀ at₀ i₀ bytes list due at i = length trace - i
 
 loop-holds : tie.Need-loop-holds Inv-loop μ-loop
 unfolding found retold changesBefore
-loop-holds c = (omega arith, c .nothing-carried .ensures, refl, refl, refl)
+loop-holds c = (omega arith, refl, refl, refl, refl)
 
 shared-slice-read-byte : tie.Need-shared-slice-read-byte Inv-loop μ-loop
 shared-slice-read-byte c = search needs
@@ -41,30 +38,30 @@ leave-pst-requires c κs = search needs
 
 mul-bytes : tie.Need-mul-bytes Inv-loop μ-loop
 mul-bytes c = let w = c .before .before .before .before .loop in
-    let trace = c .before .before .before .before .before .before .before .before .before .args .trace .now in
-    let left = left-of trace (w .i) (w .inv .1) (c .before .before .before .before .before .before .before .before .before .pre .1 .1) (c .before .keep-pst .ensures) (c .leave-pst .ensures) in
+    let trace = c .before .before .before .before .before .before .before .before .args .trace .now in
+    let left = left-of trace (w .i) (w .inv .1) (c .before .before .before .before .before .before .before .before .pre .1 .1) (c .before .keep-pst .ensures) (c .leave-pst .ensures) in
     omega (arith, c .before .before .shared-slice-known2 .given (w .i), mended-at-most trace (w .i))
 
 add-bytes : tie.Need-add-bytes Inv-loop μ-loop
 add-bytes c = let w = c .before .before .before .before .loop in
-    let trace = c .before .before .before .before .before .before .before .before .before .args .trace .now in
-    let left = left-of trace (w .i) (w .inv .1) (c .before .before .before .before .before .before .before .before .before .pre .1 .1) (c .before .keep-pst .ensures) (c .leave-pst .ensures) in
+    let trace = c .before .before .before .before .before .before .before .before .args .trace .now in
+    let left = left-of trace (w .i) (w .inv .1) (c .before .before .before .before .before .before .before .before .pre .1 .1) (c .before .keep-pst .ensures) (c .leave-pst .ensures) in
     omega (arith, c .before .before .shared-slice-known2 .given (w .i), mended-at-most trace (w .i))
 
 slice-write-bytes : tie.Need-slice-write-bytes Inv-loop μ-loop
 slice-write-bytes c = let w = c .before .before .before .before .loop in
-    let a = c .before .before .before .before .before .before .before .before .before .args in
+    let a = c .before .before .before .before .before .before .before .before .args in
     omega (arith, length-stored (a .bytes .now) (retold (mendedPst (a .trace .now)) (a .trace .now) (w .i)) 0 (w .inv .3))
 
 put-change-requires : tie.Need-put-change-requires Inv-loop μ-loop
 put-change-requires c κs = let w = c .before .before .before .before .before .loop in
-    let a = c .before .before .before .before .before .before .before .before .before .before .args in
+    let a = c .before .before .before .before .before .before .before .before .before .args in
     let trace = a .trace .now in
-    let left = left-of trace (w .i) (w .inv .1) (c .before .before .before .before .before .before .before .before .before .before .pre .1 .1) (c .before .before .keep-pst .ensures) (c .before .leave-pst .ensures) in
+    let left = left-of trace (w .i) (w .inv .1) (c .before .before .before .before .before .before .before .before .before .pre .1 .1) (c .before .before .keep-pst .ensures) (c .before .leave-pst .ensures) in
     (search needs, rw (left, w .inv .2) (omega (arith, change-fits trace (w .i) (search needs), length-stored (a .list .now) (changesBefore trace (w .i)) 0 (w .inv .4))))
 
-after-cycle-requires : tie.Need-after-cycle-requires Inv-loop μ-loop
-after-cycle-requires c κs = search needs
+due-after-requires : tie.Need-due-after-requires Inv-loop μ-loop
+due-after-requires c κs = search needs
 
 add-i : tie.Need-add-i Inv-loop μ-loop
 add-i c = search needs
@@ -74,13 +71,13 @@ loop-less c = search needs
 
 loop-again : tie.Need-loop-again Inv-loop μ-loop
 loop-again c = let w = c .before .before .before .before .before .before .before .before .before .loop in
-    let a = c .before .before .before .before .before .before .before .before .before .before .before .before .before .before .args in
+    let a = c .before .before .before .before .before .before .before .before .before .before .before .before .before .args in
     let trace = a .trace .now in
     let keeps = c .before .before .before .before .before .before .keep-pst .ensures in
-    let left = left-of trace (w .i) (w .inv .1) (c .before .before .before .before .before .before .before .before .before .before .before .before .before .before .pre .1 .1) keeps (c .before .before .before .before .before .leave-pst .ensures) in
+    let left = left-of trace (w .i) (w .inv .1) (c .before .before .before .before .before .before .before .before .before .before .before .before .before .pre .1 .1) keeps (c .before .before .before .before .before .leave-pst .ensures) in
     let p = c .before .before .before .put-change .ensures in (
       search needs,
-      rw keeps at (c .after-cycle .ensures) ∙ found-next trace (w .i) (w .carried) (w .inv .1),
+      c .due-after .ensures ∙ due-next trace (w .i) (w .inv .1) keeps,
       rw (left, w .inv .2) at (p .place) ∙ changes-counted trace (w .i),
       rw (left, w .inv .3) (mended-more (mendedPst trace) trace (a .bytes .now) (w .i)),
       rw (left, w .inv .2, w .inv .4) at (p .stored) ∙ changes-more trace (a .list .now) (w .i),
@@ -88,17 +85,17 @@ loop-again c = let w = c .before .before .before .before .before .before .before
 
 same-length : tie.Need-same-length Inv-loop μ-loop
 same-length c = let w = c .before .loop in
-    let a = c .before .before .before .before .before .before .args in
+    let a = c .before .before .before .before .before .args in
     length-stored (a .bytes .now) (retold (mendedPst (a .trace .now)) (a .trace .now) (w .i)) 0 (w .inv .3)
 
 same-length-2 : tie.Need-same-length-2 Inv-loop μ-loop
 same-length-2 c = let w = c .before .loop in
-    let a = c .before .before .before .before .before .before .args in
+    let a = c .before .before .before .before .before .args in
     length-stored (a .list .now) (changesBefore (a .trace .now) (w .i)) 0 (w .inv .4)
 
 returns : tie.Need-returns Inv-loop μ-loop
 returns c = let w = c .before .loop in
-    let end : w .i ≡ length (c .before .before .before .before .before .before .args .trace .now) = omega arith in
+    let end : w .i ≡ length (c .before .before .before .before .before .args .trace .now) = omega arith in
     (rw end at (w .inv .3), rw end at (w .inv .4))
 
 pub put-mended-spec : {M : Type 1} → statement M
@@ -107,7 +104,6 @@ put-mended-spec =
     (tie.spec
     Inv-loop
     μ-loop
-    nothing-carried-requires
     loop-holds
     shared-slice-read-byte
     keep-pst-requires
@@ -116,7 +112,7 @@ put-mended-spec =
     add-bytes
     slice-write-bytes
     put-change-requires
-    after-cycle-requires
+    due-after-requires
     add-i
     loop-less
     loop-again

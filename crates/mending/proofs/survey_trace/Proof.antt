@@ -7,24 +7,21 @@ use lib.ListN.{length}
 use Rattle.cycle.specs.Cycle.{pst}
 use Rattle.mending.specs.Mending.{found, latestMarker}
 use Rattle.mending.specs.MendingMirror.{wipedBefore}
-use Rattle.mending.specs.MendingLaws.{found-next, latest-next, cut-none, cut-latest}
+use Rattle.mending.specs.MendingLaws.{due-next, latest-next, cut-none, cut-latest}
 use Rattle.mending.specs.MendingCountLaws.{wipes-once, wiped-next, wiped-at-most, changes-whole, changes-cut}
 use Rattle.mending.proofs.survey_trace.Statement.{statement}
 use Rattle.mending.proofs.survey_trace.Tie as tie
 
 abbrev Inv-loop : tie.InvT-loop
-Inv-loop trace carried₀ changed₀ latest₀ i₀ carried changed latest i =
-    (i ≤ length trace) × (carried ≡ found trace i) × (changed ≡ wipedBefore trace i) × (latest ≡ latestMarker trace i)
+Inv-loop trace due₀ changed₀ latest₀ i₀ due changed latest i =
+    (i ≤ length trace) × (due ≡ found trace i .due) × (changed ≡ wipedBefore trace i) × (latest ≡ latestMarker trace i)
 
 abbrev μ-loop : tie.MeasureT-loop
-μ-loop trace carried₀ changed₀ latest₀ i₀ carried changed latest i = length trace - i
-
-nothing-carried-requires : tie.Need-nothing-carried-requires Inv-loop μ-loop
-nothing-carried-requires c κs = search needs
+μ-loop trace due₀ changed₀ latest₀ i₀ due changed latest i = length trace - i
 
 loop-holds : tie.Need-loop-holds Inv-loop μ-loop
 unfolding found wipedBefore latestMarker
-loop-holds c = (omega arith, c .nothing-carried .ensures, refl, refl)
+loop-holds c = (omega arith, refl, refl, refl)
 
 shared-slice-read-pst : tie.Need-shared-slice-read-pst Inv-loop μ-loop
 shared-slice-read-pst c = search needs
@@ -37,14 +34,14 @@ count-wiped-requires c κs = search needs
 
 add-changed : tie.Need-add-changed Inv-loop μ-loop
 add-changed c = let w = c .before .before .before .before .loop in
-    let trace = c .before .before .before .before .before .before .before .args .trace .now in
+    let trace = c .before .before .before .before .before .before .args .trace .now in
     omega (arith, wiped-at-most trace (w .i), c .count-wiped .ensures, wipes-once (pst trace (w .i)) (c .before .keep-pst .result))
 
 latest-of-requires : tie.Need-latest-of-requires Inv-loop μ-loop
 latest-of-requires c κs = search needs
 
-after-cycle-requires : tie.Need-after-cycle-requires Inv-loop μ-loop
-after-cycle-requires c κs = search needs
+due-after-requires : tie.Need-due-after-requires Inv-loop μ-loop
+due-after-requires c κs = search needs
 
 add-i : tie.Need-add-i Inv-loop μ-loop
 add-i c = search needs
@@ -54,28 +51,27 @@ loop-less c = search needs
 
 loop-again : tie.Need-loop-again Inv-loop μ-loop
 loop-again c = let w = c .before .before .before .before .before .before .loop in
-    let trace = c .before .before .before .before .before .before .before .before .before .args .trace .now in
+    let trace = c .before .before .before .before .before .before .before .before .args .trace .now in
     let keeps = c .before .before .before .keep-pst .ensures in (
       search needs,
-      rw keeps at (c .after-cycle .ensures) ∙ found-next trace (w .i) (w .carried) (w .inv .1),
+      c .due-after .ensures ∙ due-next trace (w .i) (w .inv .1) keeps,
       rw (w .inv .2, c .before .before .count-wiped .ensures, keeps, w .inv .1) (wiped-next trace (w .i)),
       rw (c .before .latest-of .ensures, keeps, w .inv .1, w .inv .3) (latest-next trace (w .i)),
     )
 
 returns : tie.Need-returns Inv-loop μ-loop
-returns c = let w = c .before .before .before .loop in
-    let trace = c .before .before .before .before .before .before .args .trace .now in
+returns c = let w = c .before .before .loop in
+    let trace = c .before .before .before .before .args .trace .now in
     let end : w .i ≡ length trace = omega arith in
     let done : found trace (length trace) .due ≡ 0 = rw (w .inv .1, end) at (c .if1 .taken) in
     record { changed = rw end at (w .inv .2) ∙ sym (changes-whole trace done); cut = sym (cut-none trace done) }
 
 add-t14 : tie.Need-add-t14 Inv-loop μ-loop
-add-t14 c = let w = c .before .before .before .loop in
-    omega (arith, wiped-at-most (c .before .before .before .before .before .before .args .trace .now) (w .i))
+add-t14 c = omega (arith, wiped-at-most (c .before .before .before .before .args .trace .now) (c .before .before .loop .i))
 
 returns-2 : tie.Need-returns-2 Inv-loop μ-loop
-returns-2 c = let w = c .before .before .before .loop in
-    let trace = c .before .before .before .before .before .before .args .trace .now in
+returns-2 c = let w = c .before .before .loop in
+    let trace = c .before .before .before .before .args .trace .now in
     let end : w .i ≡ length trace = omega arith in
     let due : found trace (length trace) .due ≡ 0 → ⊥ = λ e. c .if1 .left (rw (w .inv .1, end) e) in
     record { changed = rw end at (ap (λ (n : ℕ). n + 1) (w .inv .2)) ∙ sym (changes-cut trace due); cut = rw end at (w .inv .3) ∙ sym (cut-latest trace due) }
@@ -86,14 +82,13 @@ survey-trace-spec =
     (tie.spec
     Inv-loop
     μ-loop
-    nothing-carried-requires
     loop-holds
     shared-slice-read-pst
     keep-pst-requires
     count-wiped-requires
     add-changed
     latest-of-requires
-    after-cycle-requires
+    due-after-requires
     add-i
     loop-less
     loop-again
