@@ -5,3 +5,4 @@ pub mod ChangeListLaws
 pub mod ChangeNeededLaws
 pub mod PutBackLaws
 pub mod MendRoomLaws
+pub mod ListBackLaws

@@ -129,11 +129,11 @@ fn put_mended(trace: &[u8], bytes: &mut [u8], list: &mut [u32], cut: usize)
     while i < trace.len() {
         let byte = trace[i];
         let pst = byte / 16;
-        let kept = keep_pst(due, pst);
-        let left = leave_pst(kept, i, cut);
+        let stays = keep_pst(due, pst);
+        let left = leave_pst(stays, i, cut);
         bytes[i] = left * 16 + byte % 16;
         at = put_change(list, at, i, pst, left);
-        due = due_after(due, kept);
+        due = due_after(due, stays);
         i += 1;
     }
 }

@@ -9,7 +9,7 @@ slice-aggregate-unmend-input : tie.Need-slice-aggregate-unmend-input
 slice-aggregate-unmend-input c = sym (length-replicate {A = ℕ} 700001 0)
 
 slice-aggregate-unmend-input-2 : tie.Need-slice-aggregate-unmend-input-2
-slice-aggregate-unmend-input-2 c = search needs
+slice-aggregate-unmend-input-2 c = sym (length-replicate {A = ℕ} 65536 0)
 
 slice-aggregate-unmend-input-3 : tie.Need-slice-aggregate-unmend-input-3
 slice-aggregate-unmend-input-3 c = search needs
