@@ -25,7 +25,7 @@ use Rattle.unmend_text.specs.UnmendText.{unmended, inputAfter}
 use Rattle.unmend_text.specs.UnmendTextLaws.{its}
 use Rattle.mend_laws.specs.ChangeListLaws.{Rising, listed-in-order}
 use Rattle.mend_laws.specs.PutBackLaws.{its-list-taken, put-back-recorded}
-use Rattle.mend_laws.specs.MendRoomLaws.{list-enough}
+use Rattle.mend_laws.specs.MendRoomLaws.{rising-below, list-enough}
 
 -- a digit that is written is read, behind those that have made the number before it
 digit-back : (most end before used d : ℕ) (bytes : List ℕ) → end < 48 → d < 10 → before * 10 + d ≤ most
@@ -113,11 +113,6 @@ line-back word rest below =
     let is : word / 16 * 16 + word % 16 ≡ word = omega arith in
     let count : length C + 1 + (length P + 1) ≡ length (changeLine word) = simp length-append (omega arith) in
     rw (apart, cycle, past C 32 (P ++ 10 ∷ rest), pst, is, count)
-
--- the words of a rising list lie below its end
-rising-below : (from to : ℕ) (words : List ℕ) → Rising from to words → from ≤ to
-rising-below from to [] r = r
-rising-below from to (word ∷ words) r = omega (arith, r .0, rising-below (word / 16 + 1) to words (r .1))
 
 -- line by line, all of them
 lines-back : (from to : ℕ) (words rest : List ℕ) → to ≤ 65536 → Rising from to words

@@ -52,7 +52,7 @@ line-length word h =
       length-append (C ++ ascii " " ++ P) (ascii "\n"),
     )
 
-rising-below : (from to : ℕ) (words : List ℕ) → Rising from to words → from ≤ to
+pub rising-below : (from to : ℕ) (words : List ℕ) → Rising from to words → from ≤ to
 rising-below from to [] r = r
 rising-below from to (word ∷ words) r = omega (arith, r .0, rising-below (word / 16 + 1) to words (r .1))
 
