@@ -13,7 +13,7 @@ use Rattle.laws.specs.TestLaws.{by-test}
 use Rattle.cycle.specs.Cycle.{pst, ddata, marker, reserved, tooSoon}
 use Rattle.trace.specs.TraceReadableLaws.{Readable}
 use Rattle.mending.specs.Mending.{kept, found, cutShort, mendedPst, mended, changeWord, changesBefore, changes}
-use Rattle.mending.specs.MendingLaws.{Kept, same, wiped, kept-or-wiped, mended-or-wiped, elsewhere, cut-none, cut-announced}
+use Rattle.mending.specs.MendingLaws.{KeptOrWiped, same, wiped, kept-or-wiped, mended-or-wiped, elsewhere, cut-none, cut-announced}
 use Rattle.mend_laws.specs.RetoldLaws.{retold-byte, retold-pst, retold-ddata, retold-same}
 use Rattle.mend_laws.specs.MendedReadableLaws.{mended-passes}
 
@@ -33,11 +33,11 @@ wiped-small due p differs =
     soon true e = let z : _≡_ {A = ℕ} 0 1 = cc in absurd (omega arith)
     soon false e = marker-small p e
 
-kept-marker-small : {p k : ℕ} → Kept p k → marker k ≡ true → p < 16
+kept-marker-small : {p k : ℕ} → KeptOrWiped p k → marker k ≡ true → p < 16
 kept-marker-small {p} same e = marker-small p e
 kept-marker-small wiped e = absurd (false≢true e)
 
-differs-wiped : {p k : ℕ} → Kept p k → (k ≡ p → ⊥) → k ≡ 0
+differs-wiped : {p k : ℕ} → KeptOrWiped p k → (k ≡ p → ⊥) → k ≡ 0
 differs-wiped same differs = absurd (differs refl)
 differs-wiped wiped differs = refl
 

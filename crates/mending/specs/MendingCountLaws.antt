@@ -13,7 +13,7 @@ use Rattle.cycle.specs.CycleCountLaws.{one}
 use Rattle.cycle.specs.Cycle.{pst, marker}
 use Rattle.mending.specs.Mending.{found, keptAt, cutShort, mendedPst, changeWord, changesBefore, changes}
 use Rattle.mending.specs.MendingMirror.{wipes, wipedBefore}
-use Rattle.mending.specs.MendingLaws.{Kept, same, wiped, kept-or-wiped, Announced, at-cut, elsewhere, cut-none, cut-announced}
+use Rattle.mending.specs.MendingLaws.{KeptOrWiped, same, wiped, kept-or-wiped, Announced, at-cut, elsewhere, cut-none, cut-announced}
 
 pub wipes-once : (old left : ℕ) → wipes old left ≤ 1
 wipes-once old left = either (λ (n : ℕ). n ≤ 1) (eqb left old) 0 1 (λ e. omega arith) (λ e. omega arith)
@@ -35,7 +35,7 @@ change-counted i old left = by-case (eqb left old)
     by-case false = refl
 
 -- a marker that is kept is the cycle's own, and no 0
-own-marker : {p k : ℕ} → Kept p k → marker k ≡ true → (wipes p k ≡ 0) × (wipes p 0 ≡ 1)
+own-marker : {p k : ℕ} → KeptOrWiped p k → marker k ≡ true → (wipes p k ≡ 0) × (wipes p 0 ≡ 1)
 own-marker {p} same e = (rw (eq-eqb p p refl), rw (ne-eqb 0 p (λ z. false≢true (rw (sym z) at e))))
 own-marker wiped e = absurd (false≢true e)
 

@@ -1,5 +1,5 @@
 -- Laws of mending: cycle by cycle, what the first two rules keep, and the marker that the third is for.
-use mathlib.Core.Path.{_≡_, refl}
+use mathlib.Core.Path.{_≡_, refl, sym}
 use Prim.Native.Nat.{ℕ, zero, suc, _+_, _-_, _*_, _≤_, _<_}
 use mathlib.Core.Bool.{Bool, true, false, cond}
 use mathlib.Core.List.{List, [], _∷_, _++_}
@@ -7,21 +7,22 @@ use native.Mathlib.Numerals.{add-one}
 use native.Mathlib.Omega.{arith}
 use lib.Dec.{eqb}
 use lib.ListN.{length}
-use borrow.Author.Tests.{eq-eqb, ne-eqb}
+use borrow.Author.Tests.{eq-eqb, ne-eqb, lt-ltb, le-ltb}
 use Rattle.laws.specs.TestLaws.{either}
+use Rattle.cycle.specs.CycleLaws.{never}
 use Rattle.cycle.specs.Cycle.{pst, ddata, marker, nibbles, dueAfter, reserved, tooSoon, after}
 use Rattle.mending.specs.Mending.{kept, found, keptAt, latestMarker, cutShort, mendedPst, retold, changeWord, changesBefore}
 
 -- the first two rules keep a PST or wipe it
-pub data Kept (p : ℕ) : ℕ → Type 0 where
-  same : Kept p p
-  wiped : Kept p 0
+pub data KeptOrWiped (p : ℕ) : ℕ → Type 0 where
+  same : KeptOrWiped p p
+  wiped : KeptOrWiped p 0
 
-pub kept-or-wiped : (due p : ℕ) → Kept p (kept due p)
+pub kept-or-wiped : (due p : ℕ) → KeptOrWiped p (kept due p)
 unfolding kept
-kept-or-wiped due p = either (Kept p) (reserved p) _ _ (λ e. wiped) (λ e. either (Kept p) (tooSoon due p) _ _ (λ f. wiped) (λ f. same))
+kept-or-wiped due p = either (KeptOrWiped p) (reserved p) _ _ (λ e. wiped) (λ e. either (KeptOrWiped p) (tooSoon due p) _ _ (λ f. wiped) (λ f. same))
 
-kept-le : {p k : ℕ} → Kept p k → k ≤ p
+kept-le : {p k : ℕ} → KeptOrWiped p k → k ≤ p
 kept-le same = omega arith
 kept-le wiped = omega arith
 
@@ -49,10 +50,10 @@ module _ (trace : List ℕ) (i : ℕ) where
   retold-next psts = rw (add-one i)
 
 -- and so do all three; none makes it larger
-pub mended-or-wiped : (trace : List ℕ) (i : ℕ) → Kept (pst trace i) (mendedPst trace i)
+pub mended-or-wiped : (trace : List ℕ) (i : ℕ) → KeptOrWiped (pst trace i) (mendedPst trace i)
 unfolding mendedPst
 mended-or-wiped trace i =
-    either (Kept (pst trace i)) (eqb i (cutShort trace)) 0 (keptAt trace i) (λ e. wiped) (λ e. kept-or-wiped (found trace i .due) (pst trace i))
+    either (KeptOrWiped (pst trace i)) (eqb i (cutShort trace)) 0 (keptAt trace i) (λ e. wiped) (λ e. kept-or-wiped (found trace i .due) (pst trace i))
 
 pub mended-at-most : (trace : List ℕ) (i : ℕ) → mendedPst trace i ≤ pst trace i
 mended-at-most trace i = kept-le (mended-or-wiped trace i)
@@ -98,3 +99,31 @@ module _ (trace : List ℕ) where
 
     pub cut-announced : Announced trace (cutShort trace) (length trace)
     cut-announced = rw cut-latest (latest-announced trace (length trace) due)
+
+-- what is kept, by the kind of PST
+module _ (due p : ℕ) where
+  pub kept-reserved : reserved p ≡ true → kept due p ≡ 0
+  unfolding kept
+  kept-reserved e = rw e
+
+  pub kept-low : p < 8 → reserved p ≡ false → kept due p ≡ p
+  unfolding kept
+  kept-low h e = rw (e, lt-ltb p 8 h, sym (never due))
+
+  above : (n : ℕ) → n < 8 → 8 ≤ p → eqb p n ≡ false
+  above n k h = ne-eqb p n (λ e. omega (arith, e))
+
+  unreserved : 8 ≤ p → reserved p ≡ false
+  unreserved h = rw (above 2 (omega arith) h, above 6 (omega arith) h)
+
+  pub kept-soon : 8 ≤ p → p < 12 → 2 ≤ due → kept due p ≡ 0
+  unfolding kept
+  kept-soon h k d = rw (unreserved h, le-ltb p 8 h, lt-ltb p 12 k, le-ltb due 2 d)
+
+  pub kept-in-turn : 8 ≤ p → p < 12 → due < 2 → kept due p ≡ p
+  unfolding kept
+  kept-in-turn h k d = rw (unreserved h, lt-ltb due 2 d)
+
+  pub kept-high : 12 ≤ p → kept due p ≡ p
+  unfolding kept
+  kept-high h = rw (unreserved (omega arith), le-ltb p 8 (omega arith), le-ltb p 12 h, sym (never due))

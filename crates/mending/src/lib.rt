@@ -2,20 +2,26 @@
 use grounds::Ground;
 ghost use mathlib.Core.Path.{_≡_};
 ghost use mathlib.Core.Bool.{cond};
-ghost use Prim.Native.Nat.{_+_, _≤_, _<_};
+ghost use Prim.Native.Nat.{_+_, _-_, _≤_, _<_};
 ghost use lib.Dec.{eqb};
 ghost use lib.ListN.{length};
 ghost use lib.Seq.{sets};
-ghost use Rattle.cycle.specs.Cycle.{marker, dueAfter};
+ghost use Rattle.cycle.specs.Cycle.{marker};
 ghost use Rattle.laws.specs.StoredMirror.{Stored};
-ghost use Rattle.mending.specs.Mending.{kept, cutShort, mended, changeWord, changes};
+ghost use Rattle.mending.specs.Mending.{cutShort, mended, changeWord, changes};
 ghost use Rattle.mending.specs.MendingAnswer.{MendingMeets};
-ghost use Rattle.mending.specs.MendingMirror.{wipes, Surveyed};
+ghost use Rattle.mending.specs.MendingMirror.{keptAfter, wipes, Surveyed};
 
 // How many cycles were changed, or why the trace is not mended.
 pub enum Mending {
     Changed(usize),
     Refused(Ground),
+}
+
+// The PST that is kept of a cycle, and what is due after it.
+pub struct Kept {
+    pub pst: u8,
+    pub due: u8,
 }
 
 // What mending will change: how many cycles, and the one whose marker announces more than there is. The trace's
@@ -25,27 +31,44 @@ pub struct Survey {
     pub cut: usize,
 }
 
-// What the first two rules keep of a PST where so many nibbles are due.
-fn keep_pst(due: u8, pst: u8) -> u8
-    ensures { λ r. ⌜ r ≡ kept due pst ⌝ }
+fn one_less(due: u8) -> u8
+    ensures { λ r. ⌜ r ≡ due - 1 ⌝ }
 {
-    if cycle::is_reserved(pst) {
-        return 0;
-    }
-    if cycle::comes_too_soon(due, pst) {
-        return 0;
-    }
-    pst
+    if due == 0 { 0 } else { due - 1 }
 }
 
-// What is due after a cycle.
-fn due_after(due: u8, pst: u8) -> u8
-    ensures { λ r. ⌜ r ≡ dueAfter due pst ⌝ }
+// A cycle by the first two rules where so many nibbles are due. One branch for each kind of PST: what is kept of it decides what is due next.
+fn judge_cycle(due: u8, pst: u8) -> Kept
+    ensures { λ r. ⌜ r ≡ keptAfter due pst ⌝ }
 {
-    if cycle::is_marker(pst) {
-        return cycle::count_nibbles(pst);
+    if pst < 8 {
+        if cycle::is_reserved(pst) {
+            return Kept {
+                pst: 0,
+                due: one_less(due),
+            };
+        }
+        return Kept {
+            pst,
+            due: one_less(due),
+        };
     }
-    if due == 0 { 0 } else { due - 1 }
+    if pst < 12 {
+        if 2 <= due {
+            return Kept {
+                pst: 0,
+                due: one_less(due),
+            };
+        }
+        return Kept {
+            pst,
+            due: cycle::count_nibbles(pst),
+        };
+    }
+    Kept {
+        pst,
+        due: one_less(due),
+    }
 }
 
 // One where a PST was changed.
@@ -86,10 +109,10 @@ fn survey_trace(trace: &[u8]) -> Survey
     let mut i = 0usize;
     while i < trace.len() {
         let pst = trace[i] / 16;
-        let kept = keep_pst(due, pst);
-        changed += count_wiped(pst, kept);
-        latest = latest_of(latest, i, kept);
-        due = due_after(due, kept);
+        let kept = judge_cycle(due, pst);
+        changed += count_wiped(pst, kept.pst);
+        latest = latest_of(latest, i, kept.pst);
+        due = kept.due;
         i += 1;
     }
     if due == 0 {
@@ -129,11 +152,11 @@ fn put_mended(trace: &[u8], bytes: &mut [u8], list: &mut [u32], cut: usize)
     while i < trace.len() {
         let byte = trace[i];
         let pst = byte / 16;
-        let stays = keep_pst(due, pst);
-        let left = leave_pst(stays, i, cut);
+        let stays = judge_cycle(due, pst);
+        let left = leave_pst(stays.pst, i, cut);
         bytes[i] = left * 16 + byte % 16;
         at = put_change(list, at, i, pst, left);
-        due = due_after(due, stays);
+        due = stays.due;
         i += 1;
     }
 }

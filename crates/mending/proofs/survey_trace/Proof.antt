@@ -5,6 +5,7 @@ use native.Mathlib.Omega.{arith}
 use borrow.Author.Needs.{needs}
 use lib.ListN.{length}
 use Rattle.cycle.specs.Cycle.{pst}
+use Rattle.mending.specs.declared.Kept.{Kept}
 use Rattle.mending.specs.Mending.{found, latestMarker}
 use Rattle.mending.specs.MendingMirror.{wipedBefore}
 use Rattle.mending.specs.MendingLaws.{due-next, latest-next, cut-none, cut-latest}
@@ -26,8 +27,8 @@ loop-holds c = (omega arith, refl, refl, refl)
 shared-slice-read-pst : tie.Need-shared-slice-read-pst Inv-loop μ-loop
 shared-slice-read-pst c = search needs
 
-keep-pst-requires : tie.Need-keep-pst-requires Inv-loop μ-loop
-keep-pst-requires c κs = search needs
+judge-cycle-requires : tie.Need-judge-cycle-requires Inv-loop μ-loop
+judge-cycle-requires c κs = search needs
 
 count-wiped-requires : tie.Need-count-wiped-requires Inv-loop μ-loop
 count-wiped-requires c κs = search needs
@@ -35,13 +36,10 @@ count-wiped-requires c κs = search needs
 add-changed : tie.Need-add-changed Inv-loop μ-loop
 add-changed c = let w = c .before .before .before .before .loop in
     let trace = c .before .before .before .before .before .before .args .trace .now in
-    omega (arith, wiped-at-most trace (w .i), c .count-wiped .ensures, wipes-once (pst trace (w .i)) (c .before .keep-pst .result))
+    omega (arith, wiped-at-most trace (w .i), c .count-wiped .ensures, wipes-once (pst trace (w .i)) (c .before .judge-cycle .result .pst))
 
 latest-of-requires : tie.Need-latest-of-requires Inv-loop μ-loop
 latest-of-requires c κs = search needs
-
-due-after-requires : tie.Need-due-after-requires Inv-loop μ-loop
-due-after-requires c κs = search needs
 
 add-i : tie.Need-add-i Inv-loop μ-loop
 add-i c = search needs
@@ -50,13 +48,13 @@ loop-less : tie.Need-loop-less Inv-loop μ-loop
 loop-less c = search needs
 
 loop-again : tie.Need-loop-again Inv-loop μ-loop
-loop-again c = let w = c .before .before .before .before .before .before .loop in
-    let trace = c .before .before .before .before .before .before .before .before .args .trace .now in
-    let keeps = c .before .before .before .keep-pst .ensures in (
+loop-again c = let w = c .before .before .before .before .before .loop in
+    let trace = c .before .before .before .before .before .before .before .args .trace .now in
+    let keeps = ap (λ (k : Kept). k .pst) (c .before .before .judge-cycle .ensures) in (
       search needs,
-      c .due-after .ensures ∙ due-next trace (w .i) (w .inv .1) keeps,
-      rw (w .inv .2, c .before .before .count-wiped .ensures, keeps, w .inv .1) (wiped-next trace (w .i)),
-      rw (c .before .latest-of .ensures, keeps, w .inv .1, w .inv .3) (latest-next trace (w .i)),
+      ap (λ (k : Kept). k .due) (c .before .before .judge-cycle .ensures) ∙ due-next trace (w .i) (w .inv .1) refl,
+      rw (w .inv .2, c .before .count-wiped .ensures, keeps, w .inv .1) (wiped-next trace (w .i)),
+      rw (c .latest-of .ensures, keeps, w .inv .1, w .inv .3) (latest-next trace (w .i)),
     )
 
 returns : tie.Need-returns Inv-loop μ-loop
@@ -84,11 +82,10 @@ survey-trace-spec =
     μ-loop
     loop-holds
     shared-slice-read-pst
-    keep-pst-requires
+    judge-cycle-requires
     count-wiped-requires
     add-changed
     latest-of-requires
-    due-after-requires
     add-i
     loop-less
     loop-again
