@@ -147,7 +147,7 @@ pub fn dropouts() -> Vec<u8> {
     trace
 }
 
-/// Nothing but noise: about every other cycle is a reserved PST or a marker.
+/// Nothing but noise: of every eight cycles about three are reserved PSTs or markers.
 pub fn noise_recorded(seed: u64, cycles: usize) -> Vec<u8> {
     let mut rng = Rng::new(seed);
     (0..cycles).map(|_| rng.below(0x100) as u8).collect()
