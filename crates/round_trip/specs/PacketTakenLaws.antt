@@ -79,7 +79,7 @@ module _ (c : Command) (phase : Phase) (s : State) where
   under-again : (further : Phase) → under c further (under c phase s) ≡ under c further s
   under-again further = rw (during-during c (s .place .chain))
 
-  work-under : (address value : ℕ) → left (Work c address value) (under c phase s) ≡ left (Work c address value) s
+  pub work-under : (address value : ℕ) → left (Work c address value) (under c phase s) ≡ left (Work c address value) s
   work-under address value = rw (after-during (endingOf c (s .board) address (accessOf c (s .memory) (s .place .pointer) address)) c (s .place .chain))
 
   ready-under : (k address value : ℕ) → left (workAfter k c address value) (under c phase s) ≡ left (workAfter k c address value) s

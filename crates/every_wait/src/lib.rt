@@ -1,0 +1,1 @@
+// [10] The same answers at every wait setting: definitions and laws, no code.
