@@ -36,7 +36,7 @@ pub struct Cut {
     pub none: bool,
 }
 
-fn is_line_end(byte: u8) -> bool
+pub fn is_line_end(byte: u8) -> bool
     ensures { λ r. ⌜ r ≡ isLineEnd byte ⌝ }
 {
     if byte == b'\n' {

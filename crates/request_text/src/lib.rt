@@ -9,7 +9,7 @@ use text::put_decimal;
 use text::put_hex;
 use text::put_text;
 
-fn put_outcome(text: &mut [u8], outcome: Outcome) -> usize
+pub fn put_outcome(text: &mut [u8], outcome: Outcome) -> usize
     ensures { λ r. ⌜ Puts (now (text .entry)) 0 (outcomeText outcome) (now (text .exit)) r ⌝ }
 {
     match outcome {

@@ -121,7 +121,7 @@ fault-length : (fault : Fault) → length (faultText fault) ≤ 16
 fault-length NoFault = omega arith
 fault-length (FaultAt first) = simp length-append (omega (arith, digits-length 16 8 first))
 
-state-length : (b : Board) (p : Place) → length (stateText b p) ≤ 1024
+pub state-length : (b : Board) (p : Place) → length (stateText b p) ≤ 1024
 unfolding stateText
 state-length b p =
     let sync = digits-length 16 1 (bitOf (b .status .sync)) in

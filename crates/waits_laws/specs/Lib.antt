@@ -1,0 +1,4 @@
+pub mod FileSameLaws
+pub mod WaitsSameLaws
+pub mod WaitsRoomLaws
+pub mod WaitsCountLaws

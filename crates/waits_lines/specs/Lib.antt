@@ -1,0 +1,2 @@
+pub mod WaitsLines
+pub mod WaitsLinesLaws

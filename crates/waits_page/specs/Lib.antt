@@ -1,0 +1,2 @@
+pub mod WaitsPage
+pub mod WaitsPageLaws

@@ -1,0 +1,2 @@
+pub mod WaitsRun
+pub mod WaitsRunLaws

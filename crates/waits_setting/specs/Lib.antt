@@ -1,0 +1,2 @@
+pub mod WaitsSetting
+pub mod WaitsSettingLaws
