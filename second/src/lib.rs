@@ -24,4 +24,5 @@ pub mod stored;
 pub mod talk;
 pub mod trace;
 pub mod visit;
+pub mod waits;
 pub mod work;

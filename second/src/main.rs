@@ -7,7 +7,7 @@ use std::io::{self, BufWriter, Write};
 use std::path::Path;
 use std::process::ExitCode;
 
-const USAGE: &str = "usage: second stand_in | pod | talk | trace_list | page | mend | unmend
+const USAGE: &str = "usage: second stand_in | pod | talk | trace_list | page | mend | unmend | waits
        second trace_list FROM
        second gateway [ADDRESS LONGWORDS]
        second morning
@@ -35,6 +35,7 @@ fn main() -> ExitCode {
         ["page"] => print_page(),
         ["mend"] => mend(),
         ["unmend"] => unmend(),
+        ["waits"] => print_waits(),
         [name] if desk::LINE_PROGRAMS.contains(&name) => converse(name),
         ["morning"] => check_morning(),
         ["cycles"] => write_cycles(),
@@ -105,6 +106,12 @@ fn mend() -> Result<bool, String> {
 fn unmend() -> Result<bool, String> {
     let (mut output, mut said) = (BufWriter::new(io::stdout().lock()), BufWriter::new(io::stderr()));
     desk::unmend(&mut io::stdin().lock(), &mut output, &mut said).map_err(|error| format!("second unmend: {error}"))?;
+    Ok(true)
+}
+
+fn print_waits() -> Result<bool, String> {
+    let mut output = BufWriter::new(io::stdout().lock());
+    desk::waits(&mut io::stdin().lock(), &mut output).map_err(|error| format!("second waits: {error}"))?;
     Ok(true)
 }
 

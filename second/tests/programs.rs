@@ -61,14 +61,18 @@ fn programs(name: &str, filtered: &str, filter: &str) -> PathBuf {
 /// The same with a filter before it too.
 fn programs_between(name: &str, filtered: &str, before: &str, behind: &str) -> PathBuf {
     let directory = Path::new(env!("CARGO_TARGET_TMPDIR")).join(name);
-    fs::create_dir_all(&directory).unwrap();
-    for program in ["stand_in", "pod", "talk", "trace_list", "page"] {
+    for program in ["stand_in", "pod", "talk", "trace_list", "page", "waits"] {
         let (before, behind) = if program == filtered { (before, behind) } else { ("cat", "cat") };
-        let path = directory.join(program);
-        fs::write(&path, format!("#!/bin/sh\n{before} | '{SECOND}' {program} \"$@\" | {behind}\n")).unwrap();
-        fs::set_permissions(&path, fs::Permissions::from_mode(0o755)).unwrap();
+        put_between(&directory, program, before, behind);
     }
     directory
+}
+
+fn put_between(directory: &Path, program: &str, before: &str, behind: &str) {
+    fs::create_dir_all(directory).unwrap();
+    let path = directory.join(program);
+    fs::write(&path, format!("#!/bin/sh\n{before} | '{SECOND}' {program} \"$@\" | {behind}\n")).unwrap();
+    fs::set_permissions(&path, fs::Permissions::from_mode(0o755)).unwrap();
 }
 
 /// `second gateway` behind a filter of its packets, or of its results.
@@ -120,7 +124,7 @@ fn the_same_programs_agree() {
     let (good, text) = second(&["random", "--all", bin, "1", "3"]);
     assert!(good, "{text}");
     assert!(text.starts_with("3 rounds agree: 4800 lines, 60 traces, "), "{text}");
-    assert!(text.ends_with(" visits, 60 mended traces, 240 spoilt lists\n"), "{text}");
+    assert!(text.ends_with(" visits, 60 mended traces, 240 spoilt lists, 12 files at every W\n"), "{text}");
     let (good, text) = second(&["soak", bin, "1"]);
     assert!(good && text.ends_with("all agree\n"), "{text}");
 }
@@ -331,6 +335,41 @@ fn what_mend_made_must_be_listed() {
     assert!(text.ends_with("  trace_list says: refused 10 at 0\n"), "{text}");
 }
 
+/// A directory with nothing but `waits`, between two filters.
+fn waits_alone(name: &str, before: &str, behind: &str) -> PathBuf {
+    let directory = Path::new(env!("CARGO_TARGET_TMPDIR")).join(name);
+    put_between(&directory, "waits", before, behind);
+    directory
+}
+
+#[test]
+fn a_shortest_file_for_waits_is_found() {
+    for (name, before, behind, vector, expected, shortest) in [
+        ("another_answer", "cat", "sed 's/: bus-error$/: illegal/'", "end_of_memory", "read.b 6: bus-error", "    "),
+        ("fewer_packets", "cat", "sed 's/^w F packets [0-9][0-9]/w F packets 9/'", "page", "w F packets 59", "    "),
+        ("another_number", "cat", "sed 's/^unclear line .*/unclear line 0/'", "number_cr", "unclear line 5", "    "),
+        ("cr_is_none", "tr '\\r' x", "cat", "number_crlf", "unclear line 5", "\\r"),
+    ] {
+        let directory = waits_alone(&format!("waits_{name}"), before, behind);
+        let bin = directory.to_str().unwrap();
+        let (good, text) = second(&["compare", bin, &vectors()]);
+        let (_, shown) = text.split_once(&format!("DIFFERS waits/{vector}\n")).expect(&text);
+        let (_, shown) = shown.split_once("  expected: ").expect(&text);
+        assert!(!good && shown.starts_with(expected), "{name}: {text}");
+        let (good, text) = second(&["random", bin, "1", "60"]);
+        let (_, script) = text.split_once("waits differs; the shortest script found:\n").expect(&text);
+        assert!(!good && script.contains(shortest) && script.lines().count() < 8, "{name}: {text}");
+    }
+}
+
+#[test]
+fn a_file_that_is_too_long_is_found_though_no_line_can_be_left_out() {
+    let directory = waits_alone("waits_cut", "head -c 16384", "cat");
+    let (good, text) = second(&["random", directory.to_str().unwrap(), "1", "60"]);
+    assert!(!good && text.contains("waits differs; the shortest script found:\n"), "{text}");
+    assert!(text.contains("\n  expected: too long\n"), "{text}");
+}
+
 /// Runs `second` as one of its programs: its exit status, standard error and standard output.
 fn mender(program: &str, input: &[u8]) -> (Option<i32>, String, Vec<u8>) {
     let mut child = Command::new(SECOND)
@@ -356,5 +395,18 @@ fn menders_say_on_standard_error_and_always_end_well() {
         ("unmend", b"", "unclear\n", b""),
     ] {
         assert_eq!(mender(program, input), (Some(0), said.to_string(), written.to_vec()));
+    }
+}
+
+#[test]
+fn waits_says_nothing_on_standard_error_and_always_ends_well() {
+    for (input, printed) in [
+        (&b"nop"[..], "nop: complete\nstate w=0 "),
+        (b"nop\nstate", "unclear line 2\n"),
+        (&[b'\n'; 20_000], "too long\n"),
+    ] {
+        let (status, said, written) = mender("waits", input);
+        assert_eq!((status, said.as_str()), (Some(0), ""));
+        assert!(written.starts_with(printed.as_bytes()), "{printed}");
     }
 }

@@ -64,9 +64,13 @@ fn no_file_is_stale() {
 
 #[test]
 fn inputs_are_short_and_begin_with_a_comment() {
-    for program in LINE_PROGRAMS.into_iter().chain(["gateway"]) {
+    for program in LINE_PROGRAMS.into_iter().chain(["gateway", "waits"]) {
         for (name, path) in inputs_of(program) {
             let input = fs::read(&path).unwrap();
+            if (program, name.as_str()) == ("waits", "empty") {
+                assert!(input.is_empty());
+                continue;
+            }
             assert!(input.starts_with(b"# "), "{program}/{name}.in");
             assert!(input.split(|&byte| byte == b'\n').count() <= READABLE + 1, "{program}/{name}.in");
         }

@@ -4,8 +4,8 @@ use crate::bridge::{play, played_output, Own};
 use crate::desk::output_with;
 
 /// The folders: one for each program, and one for `trace_list` with a cycle to start from.
-pub const FOLDERS: [&str; 9] =
-    ["stand_in", "pod", "talk", "trace_list", "page", "list_from", "gateway", "mend", "unmend"];
+pub const FOLDERS: [&str; 10] =
+    ["stand_in", "pod", "talk", "trace_list", "page", "list_from", "gateway", "mend", "unmend", "waits"];
 
 /// The program that the inputs of a folder are for.
 pub fn program_of(folder: &str) -> &str {

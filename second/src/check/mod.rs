@@ -23,7 +23,7 @@ pub use visitor::Process;
 use std::path::{Path, PathBuf};
 
 /// The programs under test, by name.
-pub const PROGRAMS: [&str; 8] = ["stand_in", "pod", "talk", "trace_list", "page", "gateway", "mend", "unmend"];
+pub const PROGRAMS: [&str; 9] = ["stand_in", "pod", "talk", "trace_list", "page", "gateway", "mend", "unmend", "waits"];
 
 /// A program under test, and the arguments it is run with.
 #[derive(Clone, Copy)]

@@ -7,7 +7,9 @@ use super::{Found, Subject};
 use crate::cycles::show_cycles;
 use crate::desk::LINE_PROGRAMS;
 use crate::page::INDEX_STEP;
-use crate::random::{gateway_script, marked_trace, plain, random_arguments, random_script, random_trace, Rng};
+use crate::random::{
+    gateway_script, marked_trace, plain, random_arguments, random_script, random_trace, waits_file, Rng,
+};
 use std::fmt;
 use std::path::Path;
 use std::time::Duration;
@@ -16,6 +18,9 @@ use std::time::Duration;
 const SHRINK_TIME: Duration = Duration::from_secs(60);
 const TRACES: usize = 20;
 const SCENES: usize = 5;
+const FILES: usize = 4;
+/// The most lines that a file for `waits` has: some are short, so that the state behind each kind of line is seen.
+const FILE_LINES: [u32; 3] = [10, 60, 200];
 
 /// How many lines a round's script has.
 fn script_length(program: &str) -> usize {
@@ -34,12 +39,14 @@ pub struct Tally {
     pub visits: usize,
     pub mended: usize,
     pub lists: usize,
+    pub files: usize,
 }
 
 impl fmt::Display for Tally {
     fn fmt(&self, f: &mut fmt::Formatter<'_>) -> fmt::Result {
-        let Tally { lines, traces, visits, mended, lists } = self;
-        write!(f, "{lines} lines, {traces} traces, {visits} visits, {mended} mended traces, {lists} spoilt lists")
+        let Tally { lines, traces, visits, mended, lists, files } = self;
+        write!(f, "{lines} lines, {traces} traces, {visits} visits, {mended} mended traces, {lists} spoilt lists, ")?;
+        write!(f, "{files} files at every W")
     }
 }
 
@@ -74,7 +81,11 @@ pub fn round(found: &Found, seed: u64, tally: &mut Tally) -> Result<(), String> 
             try_whole(subject, script.into_iter().map(ended).collect())?;
         }
     }
-    try_mending(found, &mut stream(seed, "mend"), tally)
+    try_mending(found, &mut stream(seed, "mend"), tally)?;
+    if let Some(subject) = found.subject("waits", &[]) {
+        try_files(subject, &mut stream(seed, "waits"), tally)?;
+    }
+    Ok(())
 }
 
 fn ended(mut line: Vec<u8>) -> Vec<u8> {
@@ -86,6 +97,16 @@ fn try_script(subject: Subject, rng: &mut Rng, tally: &mut Tally) -> Result<(), 
     let lines = random_script(subject.name, rng, script_length(subject.name));
     tally.lines += lines.len();
     try_whole(subject, lines)
+}
+
+fn try_files(subject: Subject, rng: &mut Rng, tally: &mut Tally) -> Result<(), String> {
+    for _ in 0..FILES {
+        let most = rng.pick(&FILE_LINES);
+        let length = rng.between(1, most) as usize;
+        try_whole(subject, waits_file(rng, length))?;
+        tally.files += 1;
+    }
+    Ok(())
 }
 
 /// A script of lines with their ends.
@@ -120,11 +141,11 @@ fn script_report(subject: Subject, mut lines: Vec<Vec<u8>>, difference: &Differe
     let fails = |lines: &[Vec<u8>]| try_lines(subject, lines).is_some();
     let shortest = shrink(&lines, SHRINK_TIME, fails);
     // What need not be typed as it is, is shown as it is mostly typed. The lines of a scene are not typed.
-    let shortest = if LINE_PROGRAMS.contains(&subject.name) {
+    let shortest = if subject.name == "gateway" {
+        shortest
+    } else {
         let plain: Vec<Vec<u8>> = shortest.iter().map(|line| plain(line)).collect();
         blank(&shortest, &plain, SHRINK_TIME, fails)
-    } else {
-        shortest
     };
     let difference =
         try_lines(subject, &shortest).map_or_else(|| difference.to_string(), |difference| difference.to_string());

@@ -103,7 +103,7 @@ impl Bench {
     }
 
     /// All that the board holds; nothing is read or cleared by it.
-    fn state(&self) -> String {
+    pub(super) fn state(&self) -> String {
         const CONTROL_NAMES: [&str; 10] = ["cacr", "acr0", "acr1", "vbr", "macsr", "mask", "acc", "sr", "pc", "rambar"];
         let board = &self.board;
         let mut fields = vec![

@@ -10,6 +10,7 @@ mod stand_in;
 mod talk;
 mod trace_list;
 mod unmend;
+mod waits;
 
 pub use bench::Bench;
 pub use gateway::gateway;
@@ -20,6 +21,7 @@ pub use stand_in::StandIn;
 pub use talk::Talk;
 pub use trace_list::trace_list;
 pub use unmend::{unmend, INPUT_LIMIT};
+pub use waits::{waits, FILE_LIMIT};
 
 use crate::line::{gets_no_answer, words, LINE_LIMIT};
 use std::io::{self, BufRead, Write};
@@ -106,6 +108,7 @@ pub fn output_with(name: &str, arguments: &[&str], mut input: &[u8]) -> Option<V
         "page" => page(&mut input, &mut output),
         "mend" => mend(&mut input, &mut output, &mut said),
         "unmend" => unmend(&mut input, &mut output, &mut said),
+        "waits" => waits(&mut input, &mut output),
         _ => converse(line_program(name)?.as_mut(), &mut input, &mut output),
     };
     done.expect("a slice can be read and a vector written");

@@ -131,7 +131,8 @@ pub fn talk_fault(rng: &mut Rng, writer: &mut Writer<Talk>) {
     writer.say("state");
 }
 
-fn ask_access(rng: &mut Rng, writer: &mut Writer<Talk>) {
+/// READ or WRITE at the edge, or a chain over it, as requests.
+pub fn ask_access(rng: &mut Rng, writer: &mut Writer<Talk>) {
     let length = writer.memory_length();
     let writes = rng.percent(50);
     let chained = rng.percent(50);

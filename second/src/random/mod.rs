@@ -17,6 +17,7 @@ mod stand_in;
 mod talk;
 mod trace;
 mod typing;
+mod waits;
 
 pub use dropouts::damaged_trace;
 pub use from::random_arguments;
@@ -30,6 +31,7 @@ pub use stand_in::stand_in_script;
 pub use talk::talk_script;
 pub use trace::random_trace;
 pub use typing::{plain, typed_script};
+pub use waits::{clear_lines, waits_file};
 
 /// The lines of a random script for a line program, each with its end; the last may lack it.
 pub fn random_script(program: &str, rng: &mut Rng, length: usize) -> Vec<Vec<u8>> {

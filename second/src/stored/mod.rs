@@ -22,6 +22,7 @@ mod traces;
 mod typed;
 mod unclear;
 mod unmend;
+mod waits;
 
 use std::fs;
 use std::path::Path;
@@ -68,6 +69,7 @@ pub fn all() -> Vec<Stored> {
     stored.extend(gateway::all());
     stored.extend(mend::all());
     stored.extend(unmend::all());
+    stored.extend(waits::all());
     stored
 }
 
