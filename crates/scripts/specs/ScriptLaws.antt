@@ -2,17 +2,18 @@
 use Prim.Native.Nat.{ℕ, suc, _+_, _-_, _≤_, _<_}
 use mathlib.Core.Path.{_≡_, refl, ap, sym, _∙_}
 use mathlib.Core.Bool.{Bool, true, false, cond}
-use mathlib.Core.List.{List, [], _∷_, _++_, append-assoc, append-nil}
+use mathlib.Core.List.{List, [], _∷_, _++_, append-assoc}
 use native.Mathlib.Omega.{arith}
-use native.Mathlib.Nat.{add-zero, add-suc, suc-add}
+use native.Mathlib.Nat.{suc-add}
 use lib.Dec.{eqb, leb}
-use lib.ListN.{length, getD, take, drop, set, length-take, length-drop, take-append-drop, drop-of-length-le}
-use lib.Seq.{sets, drop-drop, take-set-le, drop-set-add, take-all, take-length, length-sets}
+use lib.ListN.{length, getD, take, drop, length-take, length-drop, drop-of-length-le}
+use lib.Seq.{drop-drop, take-all, take-length}
 use borrow.Author.Tests.{eq-eqb, ne-eqb, leb-true, leb-false}
 use Rattle.words.specs.LineWords.{joined}
 use Rattle.words.specs.LineWordLaws.{from-here}
 use Rattle.text.specs.Text.{Puts}
 use Rattle.text.specs.TextLaws.{_then_, nothing}
+use Rattle.text.specs.TextPartLaws.{puts-in-rest, ends-inside}
 use Rattle.answers.specs.declared.Bench.{Bench}
 use Rattle.answers.specs.Bench.{Left, left}
 use Rattle.scripts.specs.declared.Gone.{Gone}
@@ -89,37 +90,6 @@ went-on {ts} {us} {g = g} p q =
       puts = rw (parted-more (g .shown) ts us) ((p .puts) then (rw (p .some) at (q .puts)));
       some = q .some ∙ rw (p .some) (shown-more (g .shown) ts us);
     }
-
--- a text put into the part of a buffer from a place on is put at that place
-sets-behind : (t b : List ℕ) (at i : ℕ) → sets b (at + i) t ≡ take at b ++ sets (drop at b) i t
-sets-behind [] b at i = sym (take-append-drop at b)
-sets-behind (v ∷ t) b at i =
-    rw (← add-suc at i)
-    (sets-behind t (set b (at + i) v) at (suc i) ∙ rw (take-set-le at b (at + i) v (omega arith), drop-set-add at b i v))
-
-pub puts-behind : {b a t : List ℕ} {at end : ℕ} → at ≤ length b → Puts (drop at b) 0 t a end → Puts b at t (take at b ++ a) (at + end)
-puts-behind {b} {a} {t} {at} {end} h p =
-    record {
-      bytes = ap (λ (tail : List ℕ). take at b ++ tail) (p .bytes) ∙ sym (rw (add-zero at) at (sets-behind t b at 0));
-      place = omega (arith, p .place, length-drop at b);
-    }
-
-pub puts-in-rest : {b a t : List ℕ} {at end : ℕ} → at ≤ length b → Puts (take (length b - at) (drop at b)) 0 t a end
-    → Puts b at t (take at b ++ (a ++ drop (length b - at) (drop at b))) (at + end)
-puts-in-rest {b} {a} {t} {at} {end} h p =
-    let most : length (drop at b) ≤ length b - at = omega (arith, length-drop at b) in
-    rw (drop-of-length-le (drop at b) most, append-nil a) (puts-behind h (rw (take-all (length b - at) (drop at b) most) at p))
-
-pub ends-inside : {b a t : List ℕ} {at end : ℕ} → at ≤ length b → Puts b at t a end → end ≤ length a
-ends-inside {b} {a} {t} {at} {end} h p =
-    let same : length a ≡ length b = ap length (p .bytes) ∙ length-sets b at t in
-    omega (arith, p .place)
-
-pub ends-in-rest : {text b a g t : List ℕ} {from at end : ℕ} → from ≤ length text → Puts text from g b at
-    → Puts (take (length b - at) (drop at b)) 0 t a end → at + end ≤ length text
-ends-in-rest {text} {b} {a} {g} {t} {from} {at} {end} h p q =
-    let same : length b ≡ length text = ap length (p .bytes) ∙ length-sets text from g in
-    omega (arith, ends-inside h p, q .place, length-take (length b - at) (drop at b))
 
 -- an answer shown behind what was shown
 pub went-shown : {gone : Gone} {bench : Bench} {l : Left} {text text₁ a said m : List ℕ} {at end : ℕ} → gone .end ≤ length text

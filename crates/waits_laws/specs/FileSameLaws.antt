@@ -23,7 +23,8 @@ use Rattle.numbers.specs.Numbers.{byteAt}
 use Rattle.lent.specs.Lent.{listed, zeros, bytesFrom}
 use Rattle.lent.specs.LentLaws.{byte-small}
 use Rattle.board_lines.specs.declared.BoardLine.{BoardLine}
-use Rattle.board_lines.specs.declared.BoardLine.the-variants.{Nothing, Make, Memory, Bytes, Packet, Event, EventWithAccess, Breakpoint, Peek, State as StateAsked, Unclear}
+use Rattle.board_lines.specs.declared.BoardLine.the-variants.{Nothing, Make, Memory, Bytes, Packet, Event, EventWithAccess}
+use Rattle.board_lines.specs.declared.BoardLine.the-variants.{Breakpoint, Peek, State as StateAsked, Unclear}
 use Rattle.talk_lines.specs.declared.TalkLine.{TalkLine}
 use Rattle.talk_lines.specs.declared.TalkLine.the-variants.{Board as BoardAsked, Ask}
 use Rattle.talk_lines.specs.TalkLines.{talkLine}

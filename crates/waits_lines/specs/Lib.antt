@@ -1,2 +1,3 @@
 pub mod WaitsLines
 pub mod WaitsLinesLaws
+pub mod WaitsLinesUnique

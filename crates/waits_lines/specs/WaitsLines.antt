@@ -124,7 +124,7 @@ packets (line ∷ lines) l = cond (takenIn line l) (packetsAs (talkLine line) l 
 abbrev pub capped : ℕ → ℕ
 capped n = min n 0xFFFFFFFFFFFFFFFF
 
--- the bytes of the file before the first line that is not taken
+-- the bytes of the file before the first line that is not taken; where all are, those of all lines with a line end each
 unfoldable pub bytesBefore : List (List ℕ) → Left → ℕ
 bytesBefore [] l = 0
 bytesBefore (line ∷ lines) l = cond (takenIn line l) (length line + 1 + bytesBefore lines (leftBy line l)) 0
@@ -138,4 +138,4 @@ pub record LinesTaken (lines : List (List ℕ)) (l : Left) (text : List ℕ) (r 
   pub packets : r .packets ≡ capped (packets lines l)
   -- whether all were taken, and where the first begins that was not
   pub taken : r .taken ≡ allTaken lines l
-  pub stray : r .taken ≡ false → r .stray ≡ bytesBefore lines l
+  pub stray : r .stray ≡ bytesBefore lines l

@@ -108,7 +108,7 @@ pub record TakenFrom (lines : List (List ℕ)) (l : Left) (at sent from : ℕ) (
   pub puts : Puts text at (rows lines l) text′ (r .end)
   pub count : r .packets ≡ capped (sent + packets lines l)
   pub whole : r .taken ≡ allTaken lines l
-  pub first : r .taken ≡ false → r .stray ≡ from + bytesBefore lines l
+  pub first : r .stray ≡ from + bytesBefore lines l
 
 -- whatever the file comes to from one of its lines on, the whole of it comes to
 abbrev pub Rests : List ℕ → Left → List ℕ → ℕ → Left → ℕ → ℕ → List ℕ → Type 0
@@ -123,7 +123,7 @@ rests-whole input l text r text′ m′ p =
       rows = p .puts;
       packets = omega (arith, p .count);
       taken = p .whole;
-      stray = λ e. omega (arith, p .first e);
+      stray = omega (arith, p .first);
     }
 
 -- a line that is taken, and the lines after it
@@ -137,7 +137,7 @@ taken-on {line} {lines} {l} {sent = sent} {r = r} t stands puts count e more =
       puts = rw (t, ← stands) (puts then more .puts);
       count = rw (t, ← stands, ← count) (omega (arith, more .count));
       whole = rw (t, ← stands) (more .whole);
-      first = λ f. rw (t, ← stands) (omega (arith, more .first f));
+      first = rw (t, ← stands) (omega (arith, more .first));
     }
 
 -- a line that is not taken
@@ -152,14 +152,14 @@ taken-stray at sent from text some t =
       puts = rw t (nothing text at);
       count = rw t (omega arith);
       whole = rw t;
-      first = λ f. rw t (omega arith);
+      first = rw t (omega arith);
     }
 
 taken-none : (bench : Bench) (m : List ℕ) (at sent from : ℕ) (text : List ℕ) → sent ≤ 0xFFFFFFFFFFFFFFFF
     → TakenFrom [] (left bench m) at sent from text (record { bench = bench; end = at; packets = sent; taken = true; stray = from }) text m
 unfolding linesLeave rows packets allTaken bytesBefore
 taken-none bench m at sent from text some =
-    record { stands = refl; puts = nothing text at; count = omega arith; whole = refl; first = λ f. omega arith }
+    record { stands = refl; puts = nothing text at; count = omega arith; whole = refl; first = omega arith }
 
 module _ (input : List ℕ) (l₀ : Left) (text₀ : List ℕ) where
   pub rests-on : (from end : ℕ) (l : Left) {l′ : Left} {at at′ sent n : ℕ} {text text′ : List ℕ} → from < length input

@@ -21,8 +21,8 @@ pub ran-came : {w : ℕ} {input m text m′ text′ front : List ℕ} {r : Ran} 
 unfolding cameAt
 ran-came run e = ap₂ cameOf (e ∙ told-cut (run .told)) (run .memory)
 
-pub setting-judged : (due : Came) {w : ℕ} {input m : List ℕ} {front page page′ m′ text text′ : List ℕ} {r : Ran} {at : ℕ} {j : Judged} → RunSo w input m text r m′ text′
-    → front ≡ take (r .end) text′
+pub setting-judged : (due : Came) {w : ℕ} {input m : List ℕ} {front page page′ m′ text text′ : List ℕ} {r : Ran} {at : ℕ} {j : Judged}
+    → RunSo w input m text r m′ text′ → front ≡ take (r .end) text′
     → JudgedSo (settingText w (r .packets) due (cameOf front m′)) (isSame due (cameOf front m′)) page at j page′
     → JudgedSo (settingText w (packetsAt (length m) w input) due (cameAt (length text) (length m) w input))
     (isSame due (cameAt (length text) (length m) w input)) page at j page′

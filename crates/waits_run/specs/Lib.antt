@@ -1,2 +1,3 @@
 pub mod WaitsRun
 pub mod WaitsRunLaws
+pub mod WaitsRunUnique

@@ -45,4 +45,4 @@ pub record RunSo (w : ℕ) (input m text : List ℕ) (r : Ran) (m′ text′ : L
   pub memory : m′ ≡ memoryAt (length m) w input
   pub packets : r .packets ≡ packetsAt (length m) w input
   pub taken : r .taken ≡ takenAt (length m) w input
-  pub stray : r .taken ≡ false → r .stray ≡ strayAt (length m) w input
+  pub stray : r .stray ≡ strayAt (length m) w input

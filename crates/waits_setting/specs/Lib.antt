@@ -1,2 +1,3 @@
 pub mod WaitsSetting
 pub mod WaitsSettingLaws
+pub mod WaitsSettingUnique

@@ -1,5 +1,6 @@
 use native.Mathlib.Omega.{arith}
-use Rattle.scripts.specs.ScriptLaws.{ends-in-rest, went-shown}
+use Rattle.text.specs.TextPartLaws.{ends-in-rest}
+use Rattle.scripts.specs.ScriptLaws.{went-shown}
 use borrow.Author.Needs.{needs}
 use Rattle.script.proofs.show.Statement.{statement}
 use Rattle.script.proofs.show.Tie as tie

@@ -4,7 +4,8 @@ use mathlib.Core.Path.{_≡_, refl}
 use native.Mathlib.Omega.{arith}
 use borrow.Author.Needs.{needs}
 use lib.ListN.{length}
-use Rattle.scripts.specs.ScriptLaws.{ends-inside, Rests, rests-on, rests-out}
+use Rattle.text.specs.TextPartLaws.{ends-inside}
+use Rattle.scripts.specs.ScriptLaws.{Rests, rests-on, rests-out}
 use Rattle.script.proofs.take_lines.Statement.{statement}
 use Rattle.script.proofs.take_lines.Tie as tie
 

@@ -28,10 +28,34 @@ abbrev μ-loop : tie.MeasureT-loop
 
 -- where a line has been cut, and where it has been judged
 abbrev Cut : Type 0
-Cut = lts.After-line-end (line-end-reads.Asked, line-end-reads.Learnt, read-talk-line-reads.Asked, read-talk-line-reads.Learnt, is-taken-reads.Asked, is-taken-reads.Learnt, take-line-reads.Asked, take-line-reads.Learnt, add-packets-reads.Asked, add-packets-reads.Learnt) reads.Pre reads.Post Inv-loop μ-loop
+Cut = lts.After-line-end (
+  line-end-reads.Asked,
+  line-end-reads.Learnt,
+  read-talk-line-reads.Asked,
+  read-talk-line-reads.Learnt,
+  is-taken-reads.Asked,
+  is-taken-reads.Learnt,
+  take-line-reads.Asked,
+  take-line-reads.Learnt,
+  add-packets-reads.Asked,
+  add-packets-reads.Learnt,
+)
+    reads.Pre reads.Post Inv-loop μ-loop
 
 abbrev Judged : Type 0
-Judged = lts.After-is-taken (line-end-reads.Asked, line-end-reads.Learnt, read-talk-line-reads.Asked, read-talk-line-reads.Learnt, is-taken-reads.Asked, is-taken-reads.Learnt, take-line-reads.Asked, take-line-reads.Learnt, add-packets-reads.Asked, add-packets-reads.Learnt) reads.Pre reads.Post Inv-loop μ-loop
+Judged = lts.After-is-taken (
+  line-end-reads.Asked,
+  line-end-reads.Learnt,
+  read-talk-line-reads.Asked,
+  read-talk-line-reads.Learnt,
+  is-taken-reads.Asked,
+  is-taken-reads.Learnt,
+  take-line-reads.Asked,
+  take-line-reads.Learnt,
+  add-packets-reads.Asked,
+  add-packets-reads.Learnt,
+)
+    reads.Pre reads.Post Inv-loop μ-loop
 
 abbrev input : Cut → List ℕ
 input cut = cut .before .before .before .before .before .before .args .input .now

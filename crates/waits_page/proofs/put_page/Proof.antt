@@ -73,12 +73,16 @@ same-length-6 c = search needs
 -- src/lib.rt:97:9
 returns-2 : tie.Need-returns-2
 returns-2 c =
-    let args = c .before .before .before .before .before .before .before .before .before .before .before .before .before .before .before .before .before .before .before .before .before .before .before .before .before .before .before .before .before .before .before .before .before .before .before .before .args in
+    let compared = c .before .before .before .before .before .before .before .before .before .before in
+    let put = compared .before .before .before .before .before .before .before in
+    let cut = put .before .before in
+    let judged = cut .before .before in
+    let ran = judged .before .before .before .before .before in
+    let first = ran .before .before .before in
+    let args = first .before .before .before .before .before .before .before .args in
     let room = roomOf (length (args .due .now)) (length (args .due-memory .now)) (length (args .text .now)) (length (args .memory .now)) in
-    let run = c .before .before .before .before .before .before .before .before .before .before .before .before .before .before .before .before .before .before .before .before .before .before .before .before .before .before .run-at .ensures in
-    let taken = sym (run .taken) ∙ c .before .before .before .before .before .before .before .before .before .before .before .before .before .before .before .before .before .before .before .before .before .if2 .taken in
-    rw (page-compared room (args .input .now) (c .before .before .before .before .before .before .before .before .before .before .before .before .before .before .before .before .before .before .before .before .before .before .before .before .before .before .before .before .before .if1 .left) taken)
-    (all-put _ _ run (c .before .before .before .before .before .before .before .before .before .before .before .before .before .before .before .before .before .before .before .front .ensures) (c .before .before .before .before .before .before .before .before .before .before .before .before .before .before .before .before .before .put-text2 .ensures) (c .before .before .before .before .before .before .before .before .before .before .put-settings .ensures) (c .before .before .put-verdict .ensures))
+    rw (page-compared room (args .input .now) (first .if1 .left) (sym (ran .run-at .ensures .taken) ∙ judged .if2 .taken))
+    (all-put _ _ (ran .run-at .ensures) (cut .front .ensures) (put .put-text2 .ensures) (compared .put-settings .ensures) (c .before .before .put-verdict .ensures))
 
 -- src/lib.rt:99:23
 front-requires-2 : tie.Need-front-requires-2
@@ -103,11 +107,13 @@ same-length-9 c = search needs
 -- src/lib.rt:76:1
 returns-3 : tie.Need-returns-3
 returns-3 c =
-    let args = c .before .before .before .before .before .before .before .before .before .before .before .before .before .before .before .before .before .before .before .before .args in
+    let judged = c .before .before .before .before .before in
+    let ran = judged .before .before .before .before .before in
+    let first = ran .before .before .before in
+    let args = first .before .before .before .before .before .before .before .args in
     let room = roomOf (length (args .due .now)) (length (args .due-memory .now)) (length (args .text .now)) (length (args .memory .now)) in
-    let run = c .before .before .before .before .before .before .before .before .before .before .run-at .ensures in
-    let stray = c .before .before .before .before .before .if2 .left in
-    rw (page-stray room (args .input .now) (c .before .before .before .before .before .before .before .before .before .before .before .before .before .if1 .left) (sym (run .taken) ∙ stray), ← run .stray stray, ← c .before .before .before .front2 .ensures)
+    let run = ran .run-at .ensures in
+    rw (page-stray room (args .input .now) (first .if1 .left) (sym (run .taken) ∙ judged .if2 .left), ← run .stray, ← c .before .before .before .front2 .ensures)
     (c .before .before .put-unclear .ensures)
 
 pub put-page-spec : {M : Type 1} → statement M

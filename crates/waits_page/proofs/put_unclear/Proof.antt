@@ -35,7 +35,10 @@ same-length c = search needs
 
 -- src/lib.rt:66:1
 returns : tie.Need-returns
-returns c = (c .before .before .before .before .before .before .before .before .before .before .before .put-text .ensures) then ((rw (c .before .before .before .before .before .before .before .line-number .ensures) at (c .before .before .before .before .before .before .put-decimal .ensures)) then (c .before .before .put-byte .ensures))
+returns c =
+    let counted = c .before .before .before .before .before .before in
+    let number = rw (counted .before .line-number .ensures) at (counted .put-decimal .ensures) in
+    (counted .before .before .before .before .before .put-text .ensures) then (number then (c .before .before .put-byte .ensures))
 
 pub put-unclear-spec : {M : Type 1} → statement M
 put-unclear-spec =

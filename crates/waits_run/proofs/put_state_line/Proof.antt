@@ -1,5 +1,5 @@
 use Rattle.text.specs.TextLaws.{_then_}
-use Rattle.scripts.specs.ScriptLaws.{puts-in-rest}
+use Rattle.text.specs.TextPartLaws.{puts-in-rest}
 use borrow.Author.Needs.{needs}
 use Rattle.waits_run.proofs.put_state_line.Statement.{statement}
 use Rattle.waits_run.proofs.put_state_line.Tie as tie
