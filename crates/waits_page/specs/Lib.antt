@@ -1,2 +1,3 @@
 pub mod WaitsPage
 pub mod WaitsPageLaws
+pub mod WaitsPageUnique

@@ -2,18 +2,19 @@
 use Prim.Native.Nat.{ℕ, suc, _+_, _-_, _≤_, _<_}
 use native.Mathlib.Omega.{arith}
 use native.Mathlib.Numerals.{add-one}
-use mathlib.Core.Path.{_≡_, refl, ap₂, _∙_, subst}
+use mathlib.Core.Path.{_≡_, refl, ap, ap₂, _∙_, subst}
 use mathlib.Core.Bool.{Bool, true, false, _&&_}
 use mathlib.Core.List.{List, _++_}
 use lib.ListN.{length, take}
 use borrow.Author.Tests.{le-leb, lt-leb}
-use Rattle.text.specs.Text.{Puts, ascii}
+use Rattle.text.specs.Text.{Puts, written, ascii}
 use Rattle.text.specs.TextLaws.{_then_, nothing, told-cut}
 use Rattle.waits_run.specs.declared.Ran.{Ran}
-use Rattle.waits_run.specs.WaitsRun.{packetsAt, takenAt, strayAt, RunSo}
+use Rattle.waits_run.specs.WaitsRun.{toldAt, memoryAt, packetsAt, takenAt, strayAt, RunSo}
 use Rattle.waits_setting.specs.declared.Judged.{Judged}
 use Rattle.waits_setting.specs.WaitsSetting.{Came, cameOf, isSame, settingText, JudgedSo}
 use Rattle.waits_page.specs.WaitsPage.{cameAt, settings, allSame, verdictText, Room, roomOf, comparedText, unclearText, pageText}
+use Rattle.waits_page.specs.WaitsPage.{workedIn, dueLeft, cameLeft}
 
 -- what a run leaves is what comes out at that W
 pub ran-came : {w : ℕ} {input m text m′ text′ front : List ℕ} {r : Ran} → RunSo w input m text r m′ text′ → front ≡ take (r .end) text′
@@ -95,3 +96,35 @@ all-put {input} {page = page} {page₃ = page₃} {end = end} lines memory run e
     (λ (due : Came). Puts page 0 (due .lines ++ (settings 16 0 due lines memory input ++ verdictText (allSame 16 0 due lines memory input))) page₃ end)
     (ran-came run e)
     (put then ((judged .puts) then (rw (judged .verdict) at verdict)))
+
+-- ---- the buffers that are worked in
+run-works : {w : ℕ} {input m text m′ text′ : List ℕ} {r : Ran} → RunSo w input m text r m′ text′
+    → cameOf text′ m′ ≡ cameOf (written text 0 (toldAt (length m) w input)) (memoryAt (length m) w input)
+run-works run = ap₂ cameOf (run .told .bytes) (run .memory)
+
+pub due-worked : {input m text m′ text′ : List ℕ} {r : Ran} → RunSo 0 input m text r m′ text′ → cameOf text′ m′ ≡ workedIn 1 0 input (cameOf text m)
+unfolding workedIn
+due-worked run = run-works run
+
+pub worked-next : (w : ℕ) {input m text m′ text′ : List ℕ} {r : Ran} {all : Came} → w < 16 → RunSo w input m text r m′ text′
+    → workedIn (16 - w) w input (cameOf text m) ≡ all → workedIn (16 - (w + 1)) (w + 1) input (cameOf text′ m′) ≡ all
+unfolding workedIn
+worked-next w {input} less run whole =
+    let one-more : 16 - w ≡ suc (16 - suc w) = omega arith in
+    rw (add-one w) (ap (workedIn (16 - suc w) (suc w) input) (run-works run) ∙ (rw one-more at whole))
+
+pub worked-ends : (w : ℕ) (input : List ℕ) {buffers all : Came} → 16 ≤ w → workedIn (16 - w) w input buffers ≡ all → buffers ≡ all
+unfolding workedIn
+worked-ends w input over whole = let none : 16 - w ≡ 0 = omega arith in rw none at whole
+
+-- ---- what is left of them, by what is found of the file
+pub left-long : (input : List ℕ) (due came : Came) → 16384 < length input → (due ≡ dueLeft input due) × (came ≡ cameLeft input due came)
+left-long input due came long = rw (lt-leb (length input) 16384 long) (refl, refl)
+
+pub left-stray : (input : List ℕ) (due came : Came) → length input ≤ 16384 → takenAt (length (due .memory)) 0 input ≡ false
+    → (workedIn 1 0 input due ≡ dueLeft input due) × (came ≡ cameLeft input due came)
+left-stray input due came short t = rw (le-leb (length input) 16384 short, t) (refl, refl)
+
+pub left-compared : (input : List ℕ) (due came : Came) → length input ≤ 16384 → takenAt (length (due .memory)) 0 input ≡ true
+    → (workedIn 1 0 input due ≡ dueLeft input due) × (workedIn 16 0 input came ≡ cameLeft input due came)
+left-compared input due came short t = rw (le-leb (length input) 16384 short, t) (refl, refl)

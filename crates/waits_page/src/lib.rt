@@ -1,8 +1,9 @@
 // The page of `waits` (docs/waits.md): the lines of a file at every W, each held against W = 0.
+ghost use mathlib.Core.Path.{_≡_};
 ghost use lib.ListN.{length};
 ghost use Rattle.text.specs.Text.{Puts};
 ghost use Rattle.waits_setting.specs.WaitsSetting.{cameOf, JudgedSo};
-ghost use Rattle.waits_page.specs.WaitsPage.{roomOf, settings, allSame, verdictText, unclearText, pageText};
+ghost use Rattle.waits_page.specs.WaitsPage.{settings, allSame, verdictText, unclearText, workedIn, WaitsMeets};
 use parts::front;
 use text::put_byte;
 use text::put_decimal;
@@ -25,7 +26,9 @@ fn put_settings(
     ensures { λ r. ⌜ JudgedSo
         (settings 16 0 (cameOf (now (due .entry)) (now («due_memory» .entry))) (length (now (text .entry))) (length (now (memory .entry))) (now (input .entry)))
         (allSame 16 0 (cameOf (now (due .entry)) (now («due_memory» .entry))) (length (now (text .entry))) (length (now (memory .entry))) (now (input .entry)))
-        (now (page .entry)) at r (now (page .exit)) ⌝ }
+        (now (page .entry)) at r (now (page .exit))
+        × (cameOf (now (text .exit)) (now (memory .exit))
+        ≡ workedIn 16 0 (now (input .entry)) (cameOf (now (text .entry)) (now (memory .entry)))) ⌝ }
 {
     let mut end = at;
     let mut same = true;
@@ -78,10 +81,10 @@ pub fn put_page(
     memory: &mut [u8],
     text: &mut [u8],
 ) -> usize
-    ensures { λ r. ⌜ Puts (now (page .entry)) 0
-        (pageText (roomOf (length (now (due .entry))) (length (now («due_memory» .entry))) (length (now (text .entry))) (length (now (memory .entry))))
-        (now (input .entry)))
-        (now (page .exit)) r ⌝ }
+    ensures { λ r. ⌜ WaitsMeets (now (input .entry)) (now (page .entry))
+        (cameOf (now (due .entry)) (now («due_memory» .entry))) (cameOf (now (text .entry)) (now (memory .entry)))
+        r (now (page .exit))
+        (cameOf (now (due .exit)) (now («due_memory» .exit))) (cameOf (now (text .exit)) (now (memory .exit))) ⌝ }
 {
     if 16384 < input.len() {
         return put_text(page, 0, b"too long\n");

@@ -1,5 +1,4 @@
 use mathlib.Core.Path.{refl}
-use native.Mathlib.Omega.{arith}
 use Rattle.text.specs.TextLaws.{nothing}
 use borrow.Author.Needs.{needs}
 use Rattle.waits_lines.proofs.take_line.Statement.{statement}

@@ -1,18 +1,10 @@
 use mathlib.Core.Path.{sym, _∙_}
-use lib.ListN.{length}
-use Rattle.waits_page.specs.WaitsPage.{roomOf}
-use Rattle.waits_page.specs.WaitsPageLaws.{page-long, page-stray, page-compared, all-put}
+use Rattle.waits_setting.specs.WaitsSetting.{cameOf}
+use Rattle.waits_page.specs.WaitsPage.{roomIn}
+use Rattle.waits_page.specs.WaitsPageLaws.{page-long, page-stray, page-compared, all-put, due-worked, left-long, left-stray, left-compared}
 use borrow.Author.Needs.{needs}
 use Rattle.waits_page.proofs.put_page.Statement.{statement}
 use Rattle.waits_page.proofs.put_page.Tie as tie
-use Rattle.waits_page.proofs.put_page.Reads as reads
-use Rattle.waits_page.proofs.put_page.Lts as lts
-use Rattle.parts.proofs.front.Reads as front-reads
-use Rattle.text.proofs.put_text.Reads as put-text-reads
-use Rattle.waits_page.proofs.put_settings.Reads as put-settings-reads
-use Rattle.waits_page.proofs.put_unclear.Reads as put-unclear-reads
-use Rattle.waits_page.proofs.put_verdict.Reads as put-verdict-reads
-use Rattle.waits_run.proofs.run_at.Reads as run-at-reads
 
 -- src/lib.rt:90:34
 slice-aggregate-put-text : tie.Need-slice-aggregate-put-text
@@ -28,7 +20,13 @@ same-length c = search needs
 
 -- src/lib.rt:90:9
 returns : tie.Need-returns
-returns c = rw (page-long _ (c .before .before .before .before .before .before .before .before .before .before .before .before .args .input .now) (c .before .before .before .before .before .if1 .taken)) (c .before .before .put-text .ensures)
+returns c =
+    let args = c .before .before .before .before .before .before .before .before .before .before .before .before .args in
+    let due = cameOf (args .due .now) (args .due-memory .now) in
+    let came = cameOf (args .text .now) (args .memory .now) in
+    let long = c .before .before .before .before .before .if1 .taken in
+    let left = left-long (args .input .now) due came long in
+    record { page = rw (page-long (roomIn due came) (args .input .now) long) (c .before .before .put-text .ensures); due = left .0; came = left .1 }
 
 -- src/lib.rt:92:9
 run-at-requires : tie.Need-run-at-requires
@@ -80,9 +78,18 @@ returns-2 c =
     let ran = judged .before .before .before .before .before in
     let first = ran .before .before .before in
     let args = first .before .before .before .before .before .before .before .args in
-    let room = roomOf (length (args .due .now)) (length (args .due-memory .now)) (length (args .text .now)) (length (args .memory .now)) in
-    rw (page-compared room (args .input .now) (first .if1 .left) (sym (ran .run-at .ensures .taken) ∙ judged .if2 .taken))
-    (all-put _ _ (ran .run-at .ensures) (cut .front .ensures) (put .put-text2 .ensures) (compared .put-settings .ensures) (c .before .before .put-verdict .ensures))
+    let due = cameOf (args .due .now) (args .due-memory .now) in
+    let came = cameOf (args .text .now) (args .memory .now) in
+    let run = ran .run-at .ensures in
+    let taken = sym (run .taken) ∙ judged .if2 .taken in
+    let left = left-compared (args .input .now) due came (first .if1 .left) taken in
+    let settled = compared .put-settings .ensures in
+    record {
+      page = rw (page-compared (roomIn due came) (args .input .now) (first .if1 .left) taken)
+          (all-put _ _ run (cut .front .ensures) (put .put-text2 .ensures) (settled .0) (c .before .before .put-verdict .ensures));
+      due = due-worked run ∙ left .0;
+      came = settled .1 ∙ left .1;
+    }
 
 -- src/lib.rt:99:23
 front-requires-2 : tie.Need-front-requires-2
@@ -111,10 +118,17 @@ returns-3 c =
     let ran = judged .before .before .before .before .before in
     let first = ran .before .before .before in
     let args = first .before .before .before .before .before .before .before .args in
-    let room = roomOf (length (args .due .now)) (length (args .due-memory .now)) (length (args .text .now)) (length (args .memory .now)) in
+    let due = cameOf (args .due .now) (args .due-memory .now) in
+    let came = cameOf (args .text .now) (args .memory .now) in
     let run = ran .run-at .ensures in
-    rw (page-stray room (args .input .now) (first .if1 .left) (sym (run .taken) ∙ judged .if2 .left), ← run .stray, ← c .before .before .before .front2 .ensures)
-    (c .before .before .put-unclear .ensures)
+    let stray = sym (run .taken) ∙ judged .if2 .left in
+    let left = left-stray (args .input .now) due came (first .if1 .left) stray in
+    record {
+      page = rw (page-stray (roomIn due came) (args .input .now) (first .if1 .left) stray, ← run .stray, ← c .before .before .before .front2 .ensures)
+          (c .before .before .put-unclear .ensures);
+      due = due-worked run ∙ left .0;
+      came = left .1;
+    }
 
 pub put-page-spec : {M : Type 1} → statement M
 put-page-spec =

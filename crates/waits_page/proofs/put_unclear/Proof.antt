@@ -2,12 +2,6 @@ use Rattle.text.specs.TextLaws.{_then_}
 use borrow.Author.Needs.{needs}
 use Rattle.waits_page.proofs.put_unclear.Statement.{statement}
 use Rattle.waits_page.proofs.put_unclear.Tie as tie
-use Rattle.waits_page.proofs.put_unclear.Reads as reads
-use Rattle.waits_page.proofs.put_unclear.Lts as lts
-use Rattle.text.proofs.put_byte.Reads as put-byte-reads
-use Rattle.text.proofs.put_decimal.Reads as put-decimal-reads
-use Rattle.text.proofs.put_text.Reads as put-text-reads
-use Rattle.waits_lines.proofs.line_number.Reads as line-number-reads
 
 -- src/lib.rt:70:32
 slice-aggregate-put-text : tie.Need-slice-aggregate-put-text

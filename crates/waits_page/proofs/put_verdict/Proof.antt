@@ -1,9 +1,6 @@
 use borrow.Author.Needs.{needs}
 use Rattle.waits_page.proofs.put_verdict.Statement.{statement}
 use Rattle.waits_page.proofs.put_verdict.Tie as tie
-use Rattle.waits_page.proofs.put_verdict.Reads as reads
-use Rattle.waits_page.proofs.put_verdict.Lts as lts
-use Rattle.text.proofs.put_text.Reads as put-text-reads
 
 -- src/lib.rt:61:35
 slice-aggregate-put-text : tie.Need-slice-aggregate-put-text

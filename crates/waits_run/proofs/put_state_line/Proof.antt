@@ -3,10 +3,6 @@ use Rattle.text.specs.TextPartLaws.{puts-in-rest}
 use borrow.Author.Needs.{needs}
 use Rattle.waits_run.proofs.put_state_line.Statement.{statement}
 use Rattle.waits_run.proofs.put_state_line.Tie as tie
-use Rattle.waits_run.proofs.put_state_line.Reads as reads
-use Rattle.waits_run.proofs.put_state_line.Lts as lts
-use Rattle.state_line.proofs.put_state.Reads as put-state-reads
-use Rattle.text.proofs.put_byte.Reads as put-byte-reads
 
 -- src/lib.rt:46:39
 sub-put-state : tie.Need-sub-put-state

@@ -2,11 +2,6 @@ use Rattle.waits_run.specs.WaitsRunLaws.{run-so}
 use borrow.Author.Needs.{needs}
 use Rattle.waits_run.proofs.run_at.Statement.{statement}
 use Rattle.waits_run.proofs.run_at.Tie as tie
-use Rattle.waits_run.proofs.run_at.Reads as reads
-use Rattle.waits_run.proofs.run_at.Lts as lts
-use Rattle.waits_lines.proofs.take_lines.Reads as take-lines-reads
-use Rattle.waits_run.proofs.put_state_line.Reads as put-state-line-reads
-use Rattle.waits_run.proofs.start.Reads as start-reads
 
 -- src/lib.rt:54:9
 start-requires : tie.Need-start-requires

@@ -3,10 +3,6 @@ use Rattle.waits_run.specs.WaitsRunLaws.{cleared-whole}
 use borrow.Author.Needs.{needs}
 use Rattle.waits_run.proofs.start.Statement.{statement}
 use Rattle.waits_run.proofs.start.Tie as tie
-use Rattle.waits_run.proofs.start.Reads as reads
-use Rattle.waits_run.proofs.start.Lts as lts
-use Rattle.board.proofs.make.Reads as make-reads
-use Rattle.lent.proofs.clear.Reads as clear-reads
 
 -- src/lib.rt:27:5
 clear-requires : tie.Need-clear-requires

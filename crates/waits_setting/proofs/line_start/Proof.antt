@@ -1,6 +1,5 @@
-use Prim.Native.Nat.{_+_, _-_}
+use Prim.Native.Nat.{_-_}
 use mathlib.Core.Path.{_≡_, refl, sym, _∙_}
-use native.Mathlib.Omega.{arith}
 use lib.ListN.{length, drop}
 use Rattle.waits_setting.specs.WaitsSetting.{lineStart}
 use Rattle.waits_setting.specs.WaitsSettingLaws.{start-on, start-out}
