@@ -1,4 +1,6 @@
 // The memory access of READ, WRITE, DUMP and FILL, and the pointer (01, "Packets").
+#![tactic(auto)]
+
 ghost use Rattle.std.specs.Prelude.{◌≡◌};
 ghost use Rattle.access.specs.Access.{past, fetching, storing, start_of, access_of, memory_after, pointer_after};
 ghost use Rattle.memory.specs.Memory.{stored};
@@ -7,7 +9,7 @@ use command::{Base, Command};
 use memory::{Fetch, Reach, Size};
 
 // What a command's access to memory found.
-#[derive(Drop)]
+#[derive(Clone, Copy)]
 pub enum Access {
     NoAccess,
     // The size, the value, and the pointer past it.

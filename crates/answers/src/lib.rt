@@ -1,4 +1,6 @@
 // The bench around the board: what each line of the desk's language does to it, and is answered, for stand_in and talk.
+#![tactic(auto)]
+
 ghost use Rattle.std.specs.Prelude.{◌≡◌, take};
 ghost use Rattle.std.proofs.lemmas.List.Edits.{sets};
 ghost use Rattle.text.specs.Text.{Puts};
@@ -20,7 +22,7 @@ use refusal_text::{put_refusal, put_unclear};
 use trigger::Event;
 
 // The board, the place, and how many bytes of memory are lent.
-#[derive(Drop)]
+#[derive(Clone, Copy)]
 pub struct Bench {
     pub board: Board,
     pub place: Place,
@@ -28,7 +30,7 @@ pub struct Bench {
 }
 
 // The bench after a line, and where the answer in the text ends; 0 where no answer is due.
-#[derive(Drop)]
+#[derive(Clone, Copy)]
 pub struct Answered {
     pub bench: Bench,
     pub end: usize,

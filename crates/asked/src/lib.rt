@@ -1,4 +1,6 @@
 // A gateway's visit (docs/gateway.md): what is asked, in this order, and before which request a marker comes.
+#![tactic(auto)]
+
 ghost use Rattle.std.specs.Prelude.{◌≡◌, get_or};
 ghost use Rattle.control.specs.Control.{control_numbers};
 ghost use Rattle.asked.specs.VisitRequests.{address_at, begins, in_table, marked, register_request, request_at, table_request};

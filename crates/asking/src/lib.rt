@@ -1,4 +1,6 @@
 // A request asked of the bench: sent, and its replies read (the desk's language, `talk`).
+#![tactic(auto)]
+
 ghost use Rattle.std.specs.Prelude.{take};
 ghost use Rattle.text.specs.Text.{Puts};
 ghost use Rattle.answers.specs.Bench.{over_lent};

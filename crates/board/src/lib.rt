@@ -1,4 +1,6 @@
 // The board, the place at which a pod talks to it, and making them (01, "The board and its parts").
+#![tactic(auto)]
+
 ghost use Rattle.std.specs.Prelude.{◌≡◌};
 ghost use Rattle.board.specs.Board.{fresh_board, fresh_place, MakingMeets};
 ghost use Rattle.board.specs.State.{standing_of};
@@ -8,7 +10,7 @@ use command::Command;
 use grounds::{Ground, Verdict};
 
 // All that a bus event or the breakpoint input may change.
-#[derive(Drop)]
+#[derive(Clone, Copy)]
 pub struct Status {
     pub halted: bool,
     pub fof: bool,
@@ -21,14 +23,14 @@ pub struct Status {
 }
 
 // D0 to D7 and A0 to A7; the control registers in the order of document 01.
-#[derive(Drop)]
+#[derive(Clone, Copy)]
 pub struct Registers {
     pub general: [u32; 16],
     pub control: [u32; 10],
 }
 
 // Of CSR the bits that are written; "AATR keeps the low 16 bits, BAAR the low 8".
-#[derive(Drop)]
+#[derive(Clone, Copy)]
 pub struct Debug {
     pub csr: u32,
     pub baar: u8,
@@ -43,14 +45,14 @@ pub struct Debug {
 }
 
 // The lowest address that was not there at the last bus error of a memory command; none after a command word other than NOP.
-#[derive(Drop)]
+#[derive(Clone, Copy)]
 pub enum Fault {
     NoFault,
     FaultAt(u32),
 }
 
 // What all who talk to the board share.
-#[derive(Drop)]
+#[derive(Clone, Copy)]
 pub struct Board {
     pub w: u32,
     pub status: Status,
@@ -60,7 +62,7 @@ pub struct Board {
 }
 
 // The operand words taken, the last four, oldest first.
-#[derive(Drop)]
+#[derive(Clone, Copy)]
 pub struct Operands {
     pub oldest: u16,
     pub older: u16,
@@ -68,7 +70,7 @@ pub struct Operands {
     pub newest: u16,
 }
 
-#[derive(Drop)]
+#[derive(Clone, Copy)]
 pub enum Phase {
     Rest,
     // The command, and the operand words still due.
@@ -79,7 +81,7 @@ pub enum Phase {
     Upper(u16),
 }
 
-#[derive(Drop)]
+#[derive(Clone, Copy)]
 pub enum Chain {
     Off,
     Dumping,
@@ -87,7 +89,7 @@ pub enum Chain {
 }
 
 // What one who talks to the board has of his own.
-#[derive(Drop)]
+#[derive(Clone, Copy)]
 pub struct Place {
     pub phase: Phase,
     pub chain: Chain,
@@ -96,14 +98,14 @@ pub struct Place {
 }
 
 // What a command word is judged by.
-#[derive(Drop)]
+#[derive(Clone, Copy)]
 pub struct Standing {
     pub halted: bool,
     pub chain: Chain,
 }
 
 // Where the making is refused, a board of W = 0 stands in.
-#[derive(Drop)]
+#[derive(Clone, Copy)]
 pub struct Made {
     pub verdict: Verdict,
     pub board: Board,

@@ -1,4 +1,6 @@
 // The desk's language: the lines of `stand_in`.
+#![tactic(auto)]
+
 ghost use Rattle.std.specs.Prelude.{◌≡◌};
 ghost use Rattle.words.specs.LineWords.{words, words_from, last_end};
 ghost use Rattle.board_lines.specs.BoardLines.{memory_line, peek_line, board_of_none, board_of_one, board_of_two};
@@ -11,7 +13,7 @@ use words::LineKind;
 mod events;
 
 // A line of `stand_in`.
-#[derive(Drop)]
+#[derive(Clone, Copy)]
 pub enum BoardLine {
     // No answer is due.
     Nothing,

@@ -1,4 +1,6 @@
 // The pod's half (01, "What the desk checks by eye"): a request's command and operand words, C clear, into a lent buffer.
+#![tactic(auto)]
+
 ghost use Rattle.std.specs.Prelude.{◌≡◌, true, ◌+◌, ◌≤◌, length};
 ghost use Rattle.std.proofs.lemmas.List.Edits.{sets};
 ghost use Rattle.requests.specs.Request.{in_range};
@@ -11,7 +13,7 @@ use memory::Size;
 use requests::Request;
 
 // What building answers: the words now at the front of the buffer.
-#[derive(Drop)]
+#[derive(Clone, Copy)]
 pub enum Built {
     Words(usize),
     Refused(Ground),

@@ -1,4 +1,6 @@
 // The board watches the bus: the event and the breakpoint input (01, "Events and firing").
+#![tactic(auto)]
+
 ghost use Rattle.bus.specs.Events.{EventMeets, BreakpointMeets};
 
 use board::{Board, Place};
@@ -8,25 +10,25 @@ use trigger::Event;
 
 mod events;
 
-#[derive(Drop)]
+#[derive(Clone, Copy)]
 pub enum EventOutcome {
     Refused(Ground),
     Taken(Seen),
 }
 
-#[derive(Drop)]
+#[derive(Clone, Copy)]
 pub struct EventAnswer {
     pub outcome: EventOutcome,
     pub board: Board,
 }
 
-#[derive(Drop)]
+#[derive(Clone, Copy)]
 pub enum BreakpointOutcome {
     Refused(Ground),
     Taken(Pressed),
 }
 
-#[derive(Drop)]
+#[derive(Clone, Copy)]
 pub struct BreakpointAnswer {
     pub outcome: BreakpointOutcome,
     pub board: Board,

@@ -1,4 +1,6 @@
 // The command words (01, "Packets", the table).
+#![tactic(auto)]
+
 ghost use Rattle.std.specs.Prelude.{◌≡◌};
 ghost use Rattle.command.specs.Command.{operand_words, result_words, halted_only, waits};
 
@@ -19,7 +21,7 @@ pub const BUS_ERROR: u32 = 0x10001;
 pub const ILLEGAL: u32 = 0x1FFFF;
 
 // The registers that WDMREG takes.
-#[derive(Drop)]
+#[derive(Clone, Copy)]
 pub enum DebugRegister {
     Csr,
     Baar,
@@ -34,14 +36,14 @@ pub enum DebugRegister {
 }
 
 // Where an access to memory begins: at the address sent, or at the pointer.
-#[derive(Drop)]
+#[derive(Clone, Copy)]
 pub enum Base {
     Address,
     Pointer,
 }
 
 // What a command shows of the board.
-#[derive(Drop)]
+#[derive(Clone, Copy)]
 pub enum Source {
     General(u8),
     Control,
@@ -49,7 +51,7 @@ pub enum Source {
 }
 
 // What a command changes of the board.
-#[derive(Drop)]
+#[derive(Clone, Copy)]
 pub enum Target {
     General(u8),
     Control,
@@ -59,7 +61,7 @@ pub enum Target {
 }
 
 // A command is what it does.
-#[derive(Drop)]
+#[derive(Clone, Copy)]
 pub enum Command {
     Unknown,
     Nop,

@@ -72,7 +72,7 @@ pub fn no_operation(n: u8) -> Command
 }
 
 // How many words a command has.
-#[derive(Drop)]
+#[derive(Clone, Copy)]
 pub struct Counts {
     pub operands: u32,
     pub results: u32,

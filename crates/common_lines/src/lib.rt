@@ -1,11 +1,13 @@
 // The desk's language: the lines that every program has, `help` and `quit`.
+#![tactic(auto)]
+
 ghost use Rattle.std.specs.Prelude.{◌≡◌};
 ghost use Rattle.words.specs.LineWords.{words};
 ghost use Rattle.common_lines.specs.CommonLines.{common_name, common_words, common_line, quits};
 
 use words::LineKind;
 
-#[derive(Drop)]
+#[derive(Clone, Copy)]
 pub enum CommonLine {
     Help,
     Quit,

@@ -1,4 +1,6 @@
 // The data comparators of a level (01, "Events and firing", amended by [1] of 02). They work side by side, so none waits for another.
+#![tactic(auto)]
+
 ghost use Rattle.std.specs.Prelude.{◌≡◌, ◌&&◌};
 ghost use Rattle.comparators.specs.Comparators.{comparator, some_comparator, data_enabled, data_holds};
 
@@ -8,7 +10,7 @@ pub mod lanes;
 pub mod mask;
 
 // The attribute is laid out as AATR's low byte.
-#[derive(Drop)]
+#[derive(Clone, Copy)]
 pub struct BusAccess {
     pub address: u32,
     pub attribute: u8,
@@ -16,7 +18,7 @@ pub struct BusAccess {
 }
 
 // One level of TDR: its T, and its fourteen bits in the order of Table 5-14.
-#[derive(Drop)]
+#[derive(Clone, Copy)]
 pub struct Level {
     pub t: bool,
     pub ebl: bool,

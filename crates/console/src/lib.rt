@@ -1,4 +1,6 @@
 // Lines from standard input, and text to standard output.
+#![tactic(auto)]
+
 ghost use Rattle.std.specs.Prelude.{◌≤◌, min, ◌≡◌, length};
 ghost use Rattle.text.specs.Text.{written};
 ghost use Rattle.console.specs.InputLines.{is_line_end};
@@ -9,28 +11,28 @@ ghost use Rattle.console.specs.GatheringMirror.{place_in};
 use libc::{STDIN_FILENO, STDOUT_FILENO};
 
 // The part of the source that was read and not yet taken.
-#[derive(Drop)]
+#[derive(Clone, Copy)]
 pub struct Unread {
     pub at: usize,
     pub end: usize,
 }
 
 // A line, of which so many bytes are held at the front of the buffer.
-#[derive(Drop)]
+#[derive(Clone, Copy)]
 pub enum Input {
     Line(usize),
     // What came behind the last line end; the input has ended.
     Last(usize),
 }
 
-#[derive(Drop)]
+#[derive(Clone, Copy)]
 pub struct LineTaken {
     pub unread: Unread,
     pub input: Input,
 }
 
 // How many bytes were taken, how many are held of the line, whether it has ended; and whether there was no byte at all.
-#[derive(Drop)]
+#[derive(Clone, Copy)]
 pub struct Cut {
     pub taken: usize,
     pub held: usize,

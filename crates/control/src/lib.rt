@@ -1,11 +1,13 @@
 // The control and the general registers (01, "Packets").
+#![tactic(auto)]
+
 ghost use Rattle.std.specs.Prelude.{◌≡◌, ◌%◌, get_or};
 ghost use Rattle.control.specs.Control.{control_index, control_listed, control_fetched, control_written, general_written};
 
 use board::Board;
 
 // A register's value; a control register that is not listed is a bus error.
-#[derive(Drop)]
+#[derive(Clone, Copy)]
 pub enum Shown {
     Value(u32),
     BusError,

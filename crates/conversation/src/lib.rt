@@ -1,4 +1,6 @@
 // A conversation: line after line to the end of the input, each answered in one of the desk's languages before the next is read.
+#![tactic(auto)]
+
 ghost use Rattle.std.specs.Prelude.{◌≤◌, ◌<◌, length, take};
 ghost use Rattle.console.specs.LineReading.{unread_of};
 ghost use Rattle.course.specs.Course.{opening, ServedMeets, CourseMeets};

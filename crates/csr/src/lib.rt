@@ -1,4 +1,6 @@
 // CSR: what it shows, and what reading it, GO and SYNC_PC leave of the status (01, "Packets").
+#![tactic(auto)]
+
 ghost use Rattle.std.specs.Prelude.{◌≡◌, ◌≤◌};
 ghost use Rattle.csr.specs.Csr.{flag, csr_written, csr_value, bstat_read, after_csr_read, after_go, after_sync_pc};
 

@@ -1,11 +1,13 @@
 // One recorded cycle: what the cycles before it have left under way, what it gives, and what it leaves.
+#![tactic(auto)]
+
 ghost use Rattle.std.specs.Prelude.{◌≡◌, ℕ, ◌+◌, ◌-◌, List, length};
 ghost use Rattle.cycle.specs.Cycle.{nothing, reserved, single, marker, nibbles, ddata, value_ending, gives_own, too_soon, after};
 ghost use Rattle.cycle.specs.CycleItems.{items_at};
 
 // What is under way where a cycle begins: the latest marker, how many of its nibbles are still due
 // (this cycle's among them), and the code of the run that the cycle stands in (0: none).
-#[derive(Drop)]
+#[derive(Clone, Copy)]
 pub struct Carried {
     pub marker: u8,
     pub due: u8,
@@ -13,7 +15,7 @@ pub struct Carried {
 }
 
 // An item of the listing. The value is 0 where the code is no marker's.
-#[derive(Drop)]
+#[derive(Clone, Copy)]
 pub struct Item {
     pub cycle: usize,
     pub code: u8,

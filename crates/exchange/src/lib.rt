@@ -1,4 +1,6 @@
 // The exchange (01, "Packets" and the pod's half): a request, a board and lent memory in; its outcome and the packets sent out.
+#![tactic(auto)]
+
 ghost use Rattle.std.specs.Prelude.{◌≡◌, true};
 ghost use Rattle.board.specs.State.{state_of};
 ghost use Rattle.sound.specs.Sound.{Sound};
@@ -16,14 +18,14 @@ use requests::Request;
 mod talk;
 
 // How an exchange ends: with the request's outcome and the packets sent, or refused with none sent.
-#[derive(Drop)]
+#[derive(Clone, Copy)]
 pub enum Exchanged {
     Ended(Outcome, u32),
     Refused(Ground),
 }
 
 // The answer, with the board and the place as they are left.
-#[derive(Drop)]
+#[derive(Clone, Copy)]
 pub struct Returned {
     pub answer: Exchanged,
     pub board: Board,

@@ -15,7 +15,7 @@ use readings::Reader;
 use requests::Request;
 
 // A packet sent: its reply, and what it leaves.
-#[derive(Drop)]
+#[derive(Clone, Copy)]
 struct Sent {
     reply: u32,
     board: Board,
@@ -23,7 +23,7 @@ struct Sent {
 }
 
 // Brought to rest with so many NOPs.
-#[derive(Drop)]
+#[derive(Clone, Copy)]
 pub struct Rested {
     pub nops: u32,
     pub board: Board,
@@ -31,7 +31,7 @@ pub struct Rested {
 }
 
 // Sent and read to the end, in so many packets.
-#[derive(Drop)]
+#[derive(Clone, Copy)]
 pub struct Talked {
     pub reader: Reader,
     pub packets: usize,

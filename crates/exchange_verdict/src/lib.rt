@@ -1,4 +1,6 @@
 // What an exchange is refused for (01, "Packets" and the pod's half).
+#![tactic(auto)]
+
 ghost use Rattle.std.specs.Prelude.{◌≡◌};
 ghost use Rattle.board.specs.State.{state_of};
 ghost use Rattle.exchange_verdict.specs.ExchangeVerdict.{exchange_verdict};

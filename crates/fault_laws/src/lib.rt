@@ -1,1 +1,2 @@
 // The address that was not there, over histories: no code.
+#![tactic(auto)]

@@ -1,4 +1,6 @@
 // Which address was not there (request [4]): the number that the board keeps.
+#![tactic(auto)]
+
 ghost use Rattle.std.specs.Prelude.{◌≡◌};
 ghost use Rattle.plan.specs.Plan.{taken_for};
 ghost use Rattle.faults.specs.Fault.{fault_taken, fault_of, fault_after};

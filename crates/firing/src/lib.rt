@@ -1,4 +1,6 @@
 // What a firing and the breakpoint input give, and what they leave of the status (01, "Events and firing").
+#![tactic(auto)]
+
 ghost use Rattle.std.specs.Prelude.{◌≡◌};
 ghost use Rattle.firing.specs.Firing.{bstat_after, responds, firing_of, firing, ssm, halt_of, captured, seen, status_after};
 ghost use Rattle.firing.specs.Breakpoint.{bkd, pressed, status_pressed};
@@ -8,14 +10,14 @@ use halting::Halting;
 use trigger::Event;
 
 // The PC that a pending SYNC_PC hands out.
-#[derive(Drop)]
+#[derive(Clone, Copy)]
 pub enum Captured {
     Nothing,
     Pc(u32),
 }
 
 // The level fired or 0, BSTAT after it, and the response that comes with it.
-#[derive(Drop)]
+#[derive(Clone, Copy)]
 pub struct Firing {
     pub level: u32,
     pub bstat: u32,
@@ -24,7 +26,7 @@ pub struct Firing {
 }
 
 // What an event that is taken is answered.
-#[derive(Drop)]
+#[derive(Clone, Copy)]
 pub struct Seen {
     pub level: u32,
     pub halted: bool,
@@ -34,7 +36,7 @@ pub struct Seen {
 }
 
 // What the breakpoint input is answered.
-#[derive(Drop)]
+#[derive(Clone, Copy)]
 pub struct Pressed {
     pub halted: bool,
     pub interrupt: bool,

@@ -1,5 +1,7 @@
 // Reads a gateway at the other end of a pod (the desk's language, `gateway`): packets go to standard output, answers come from standard input, and what
 // was read goes to standard error when the visit is over. Arguments: none, or ADDRESS LONGWORDS.
+#![tactic(auto)]
+
 ghost use Rattle.std.specs.Prelude.{◌≤◌, ◌<◌, ◌≡◌, length, take};
 ghost use Rattle.text.specs.Text.{Puts, written};
 ghost use Rattle.console.specs.LineReading.{unread_of};

@@ -1,4 +1,6 @@
 // The groups of a level: the PC, and the address with its data (01, "Events and firing").
+#![tactic(auto)]
+
 ghost use Rattle.std.specs.Prelude.{◌≡◌};
 ghost use Rattle.groups.specs.Groups.{pc_group, inside, address_matches, attribute_agrees, address_holds, address_group, joined};
 
@@ -6,13 +8,13 @@ use board::Debug;
 use comparators::mask::{agrees, turn};
 use comparators::{BusAccess, Level};
 
-#[derive(Drop)]
+#[derive(Clone, Copy)]
 pub enum Bus {
     Idle,
     Carries(BusAccess),
 }
 
-#[derive(Drop)]
+#[derive(Clone, Copy)]
 pub struct Group {
     pub enabled: bool,
     pub holds: bool,

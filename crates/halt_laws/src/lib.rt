@@ -1,1 +1,2 @@
 // What sets CSR's HALT, over histories: no code.
+#![tactic(auto)]

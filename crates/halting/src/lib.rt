@@ -1,23 +1,25 @@
 // Programs that halt themselves (request [6]): the mark of an event, and what becomes of it.
+#![tactic(auto)]
+
 ghost use Rattle.std.specs.Prelude.{◌≡◌};
 ghost use Rattle.halting.specs.Halting.{allowed, halt_at, halting, halts_itself};
 
 // What an instruction runs at.
-#[derive(Drop)]
+#[derive(Clone, Copy)]
 pub enum Privilege {
     User,
     Supervisor,
 }
 
 // Whether an event's instruction is HALT, and at which privilege.
-#[derive(Drop)]
+#[derive(Clone, Copy)]
 pub enum Mark {
     Absent,
     Halt(Privilege),
 }
 
 // What becomes of it: there is no HALT, it halts the processor, or it halts nothing.
-#[derive(Drop)]
+#[derive(Clone, Copy)]
 pub enum Halting {
     NoHalt,
     Halts,

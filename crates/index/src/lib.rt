@@ -1,4 +1,6 @@
 // The index of a trace: what stands before a cycle, as an entry and as one word.
+#![tactic(auto)]
+
 ghost use Rattle.std.specs.Prelude.{◌≡◌};
 ghost use Rattle.index.specs.Entry.{of_word, EntryMeets};
 
@@ -6,7 +8,7 @@ use cycle::Carried;
 use trace::Listing;
 
 // What stands before a cycle: how many items, and what is under way where the cycle begins.
-#[derive(Drop)]
+#[derive(Clone, Copy)]
 pub struct Entry {
     pub cycle: usize,
     pub items: usize,

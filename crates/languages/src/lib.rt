@@ -1,4 +1,6 @@
 // What a line is taken for in each of the desk's languages, and its answer.
+#![tactic(auto)]
+
 ghost use Rattle.std.specs.Prelude.{◌≡◌};
 ghost use Rattle.languages.specs.declared.Heard.TheVariants.{OfBench};
 ghost use Rattle.languages.specs.Heard.{heard_own, heard, HeardMeets};
@@ -10,7 +12,7 @@ use talk_lines::TalkLine;
 mod help;
 
 // Which lines are taken.
-#[derive(Drop)]
+#[derive(Clone, Copy)]
 pub enum Language {
     // `packet`, and no request
     StandIn,
@@ -23,7 +25,7 @@ pub enum Language {
 }
 
 // What a line is taken for.
-#[derive(Drop)]
+#[derive(Clone, Copy)]
 pub enum Heard {
     OfBench(TalkLine),
     OfPod,

@@ -1,1 +1,2 @@
 // No code: a gateway's visit to a port whose replies come late.
+#![tactic(auto)]

@@ -1,4 +1,6 @@
 // Which command is legal (01, "Packets").
+#![tactic(auto)]
+
 ghost use Rattle.std.specs.Prelude.{◌≡◌};
 ghost use Rattle.legality.specs.Legality.{is_dumping, is_filling, follows, legal_command};
 

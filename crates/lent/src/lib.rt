@@ -1,4 +1,6 @@
 // The bytes that the bench lends: zeros, and what the bench itself puts there, not through the port.
+#![tactic(auto)]
+
 ghost use Rattle.std.specs.Prelude.{◌+◌, ◌*◌, min, ◌≡◌, set};
 ghost use Rattle.std.proofs.lemmas.List.Edits.{sets};
 ghost use Rattle.numbers.specs.Numbers.{byte_at};

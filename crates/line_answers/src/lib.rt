@@ -1,4 +1,6 @@
 // The answer to a line of the board's, as the desk's language has it for stand_in and talk.
+#![tactic(auto)]
+
 ghost use Rattle.line_answers.specs.LineSaid.{LineMeets};
 
 use answers::{Answered, Bench};

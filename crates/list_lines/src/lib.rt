@@ -1,23 +1,25 @@
 // The list that `mend` printed, read back: a head, and a line for each changed cycle.
+#![tactic(auto)]
+
 ghost use Rattle.std.specs.Prelude.{◌≡◌, ◌≤◌, length, drop};
 ghost use Rattle.list_lines.specs.ListLines.{digits, number, named, line_word, lines_in, list_behind, list_in, unlisted, LinesMeet, ListMeets};
 
 // A number, and how many bytes it took with the one that ends it.
-#[derive(Drop)]
+#[derive(Clone, Copy)]
 pub enum Field {
     Read(u32, usize),
     Unread,
 }
 
 // How many bytes the lines take, and whether there are as many as were asked for.
-#[derive(Drop)]
+#[derive(Clone, Copy)]
 pub struct Lines {
     pub used: usize,
     pub all: bool,
 }
 
 // What a list says, and where the trace begins behind it.
-#[derive(Drop)]
+#[derive(Clone, Copy)]
 pub struct ListRead {
     pub clear: bool,
     pub cycles: usize,

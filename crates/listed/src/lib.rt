@@ -1,4 +1,6 @@
 // The lister's lines of a trace in one line: parted by a comma and a space, as the morning's page has them.
+#![tactic(auto)]
+
 ghost use Rattle.std.specs.Prelude.{◌≡◌, length};
 ghost use Rattle.listing.specs.Listing.{listing, words_after};
 ghost use Rattle.text.specs.Text.{Puts};

@@ -1,4 +1,6 @@
 // The listing of a trace into a lent buffer, whole or from one of its cycles on.
+#![tactic(auto)]
+
 ghost use Rattle.std.specs.Prelude.{◌≡◌, ◌+◌, ◌≤◌, ◌<◌, [], ◌∷◌, length};
 ghost use Rattle.std.proofs.lemmas.List.Edits.{sets};
 ghost use Rattle.cycle.specs.CycleItems.{value_item, own_item, items_at};

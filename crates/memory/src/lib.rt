@@ -1,8 +1,10 @@
 // Lent memory at address 0, most significant byte first (01, "Packets").
+#![tactic(auto)]
+
 ghost use Rattle.std.specs.Prelude.{◌≡◌, false, ◌+◌, ◌≤◌, ◌<◌, length};
 ghost use Rattle.memory.specs.Memory.{bytes, aligned, present, first_missing, word_at, value_at, fetched, put_word, put_at, stored, reach};
 
-#[derive(Drop)]
+#[derive(Clone, Copy)]
 pub enum Size {
     Byte,
     Word,
@@ -10,14 +12,14 @@ pub enum Size {
 }
 
 // The value, or the lowest address of the access that is not there.
-#[derive(Drop)]
+#[derive(Clone, Copy)]
 pub enum Fetch {
     Value(u32),
     Missing(u32),
 }
 
 // Memory reaches over the whole access, or the lowest address of it that is not there.
-#[derive(Drop)]
+#[derive(Clone, Copy)]
 pub enum Reach {
     Whole,
     Short(u32),

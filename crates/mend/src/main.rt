@@ -1,4 +1,6 @@
 // Mends the trace on standard input, one byte a cycle, onto standard output; what was changed goes to standard error.
+#![tactic(auto)]
+
 use libc::{STDERR_FILENO, STDIN_FILENO};
 
 fn mend_input(trace: &mut [u8], bytes: &mut [u8], words: &mut [u32], text: &mut [u8]) {

@@ -1,4 +1,6 @@
 // What `mend` tells of a trace: the list of what was changed, a line each, or a refusal.
+#![tactic(auto)]
+
 ghost use Rattle.std.specs.Prelude.{◌≡◌, length};
 ghost use Rattle.text.specs.Text.{Puts};
 ghost use Rattle.mend_text.specs.MendText.{counts_line, change_line, change_lines, list_text, MendSaid};
@@ -8,7 +10,7 @@ use refusal_text::put_refusal;
 use text::{put_byte, put_decimal, put_text};
 
 // Where the text ends, and how many bytes go to standard output.
-#[derive(Drop)]
+#[derive(Clone, Copy)]
 pub struct Said {
     pub end: usize,
     pub cycles: usize,

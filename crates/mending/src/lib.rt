@@ -1,4 +1,6 @@
 // A trace with dropouts, mended into a lent buffer, with the list of what was changed.
+#![tactic(auto)]
+
 ghost use Rattle.std.specs.Prelude.{◌≡◌, cond, ◌+◌, ◌-◌, ◌≤◌, ◌<◌, eqb, length};
 ghost use Rattle.std.proofs.lemmas.List.Edits.{sets};
 ghost use Rattle.cycle.specs.Cycle.{marker};
@@ -10,14 +12,14 @@ ghost use Rattle.mending.specs.MendingMirror.{kept_after, wipes, Surveyed};
 use grounds::Ground;
 
 // How many cycles were changed, or why the trace is not mended.
-#[derive(Drop)]
+#[derive(Clone, Copy)]
 pub enum Mending {
     Changed(usize),
     Refused(Ground),
 }
 
 // The PST that is kept of a cycle, and what is due after it.
-#[derive(Drop)]
+#[derive(Clone, Copy)]
 pub struct Kept {
     pub pst: u8,
     pub due: u8,
@@ -25,7 +27,7 @@ pub struct Kept {
 
 // What mending will change: how many cycles, and the one whose marker announces more than there is. The trace's
 // length stands for none.
-#[derive(Drop)]
+#[derive(Clone, Copy)]
 pub struct Survey {
     pub changed: usize,
     pub cut: usize,

@@ -1,4 +1,6 @@
 // The morning's check: P1 to P9 of document 01, which the desk checks by eye, each with what came out and whether it is what is due.
+#![tactic(auto)]
+
 ghost use Rattle.text.specs.Text.{Puts};
 ghost use Rattle.answers.specs.Bench.{left};
 ghost use Rattle.morning_page.specs.MorningPage.{page_text, JudgedSo};

@@ -1,4 +1,6 @@
 // The page that is read by eye: each check with what came out, and last how many were bad.
+#![tactic(auto)]
+
 ghost use Rattle.std.specs.Prelude.{◌≡◌, ◌-◌};
 ghost use Rattle.text.specs.Text.{Puts};
 ghost use Rattle.morning_page.specs.MorningPage.{check_of, under_text, judged_text, good_letters, bad_letters, verdict_text, JudgedSo};
@@ -37,7 +39,7 @@ fn put_judged(
 }
 
 // Where the page goes on, and how many are bad with this check.
-#[derive(Drop)]
+#[derive(Clone, Copy)]
 pub struct Judged {
     pub end: usize,
     pub bad: u32,

@@ -1,17 +1,19 @@
 // The desk's language: numbers, and the numbers of a line.
+#![tactic(auto)]
+
 ghost use Rattle.std.specs.Prelude.{◌≡◌, ◌≤◌};
 ghost use Rattle.words.specs.LineWords.{words_from};
 ghost use Rattle.numbers.specs.Numbers.{digit, all_digits, prefix_length, numeral, more, numbers, byte_at};
 
 // A word as a number.
-#[derive(Drop)]
+#[derive(Clone, Copy)]
 pub enum Numeral {
     Value(u32),
     NoNumber,
 }
 
 // Words as numbers, up to four.
-#[derive(Drop)]
+#[derive(Clone, Copy)]
 pub enum Numbers {
     Zero,
     One(u32),

@@ -1,4 +1,6 @@
 // Prints the page of the trace on standard input, one byte a cycle.
+#![tactic(auto)]
+
 use libc::STDIN_FILENO;
 
 // An index of 256 entries and a text of 40,960 bytes are never too short (page_text's PageRoomLaws).

@@ -1,4 +1,6 @@
 // The text of a page: its lines, or its refusal.
+#![tactic(auto)]
+
 mod lines;
 
 ghost use Rattle.std.specs.Prelude.{◌≡◌, length};

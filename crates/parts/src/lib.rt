@@ -1,4 +1,6 @@
 // Parts of bytes, as far as there are any.
+#![tactic(auto)]
+
 ghost use Rattle.std.specs.Prelude.{◌≡◌, take, drop};
 
 // The bytes up to a place.

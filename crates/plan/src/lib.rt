@@ -1,4 +1,6 @@
 // What a packet's input is taken for: a command word, an operand, or nothing (01, "Packets").
+#![tactic(auto)]
+
 ghost use Rattle.std.specs.Prelude.{◌≡◌, ◌-◌};
 ghost use Rattle.plan.specs.Plan.{long, with_operand, address_in, value_in};
 ghost use Rattle.plan.specs.Plan.{work_after, waits_of, collected, begun, continued, plan_of};
@@ -6,7 +8,7 @@ ghost use Rattle.plan.specs.Plan.{work_after, waits_of, collected, begun, contin
 use board::{Operands, Phase, Standing};
 use command::Command;
 
-#[derive(Drop)]
+#[derive(Clone, Copy)]
 pub enum Plan {
     // Operands or waits are still to come.
     Hold(Phase),

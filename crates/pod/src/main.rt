@@ -1,4 +1,6 @@
 // The pod's half: requests built and replies read, line by line (the desk's language, `pod`).
+#![tactic(auto)]
+
 use languages::Language;
 
 fn main() {

@@ -1,4 +1,6 @@
 // The pod's half: requests built and replies read (the desk's language, `pod`).
+#![tactic(auto)]
+
 ghost use Rattle.std.specs.Prelude.{◌≤◌, length, take};
 ghost use Rattle.text.specs.Text.{Puts};
 ghost use Rattle.request_text.specs.RequestText.{reading_text};

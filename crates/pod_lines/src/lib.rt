@@ -1,4 +1,6 @@
 // The desk's language: the lines of `pod`.
+#![tactic(auto)]
+
 ghost use Rattle.std.specs.Prelude.{◌≡◌};
 ghost use Rattle.words.specs.LineWords.{words, words_from};
 ghost use Rattle.numbers.specs.Numbers.{numbers};
@@ -14,7 +16,7 @@ use words::LineKind;
 mod taking;
 
 // A line of `pod`.
-#[derive(Drop)]
+#[derive(Clone, Copy)]
 pub enum PodLine {
     // No answer is due.
     Nothing,
@@ -27,7 +29,7 @@ pub enum PodLine {
 }
 
 // What taking any count of words as numbers into a buffer answers.
-#[derive(Drop)]
+#[derive(Clone, Copy)]
 pub enum Taken {
     Count(usize),
     TooMany,
@@ -35,14 +37,14 @@ pub enum Taken {
 }
 
 // Where the word `:` ends.
-#[derive(Drop)]
+#[derive(Clone, Copy)]
 pub enum Colon {
     At(usize),
     NoColon,
 }
 
 // The numbers before the colon, and where it ends.
-#[derive(Drop)]
+#[derive(Clone, Copy)]
 pub struct Parted {
     pub numbers: Numbers,
     pub colon: Colon,

@@ -1,4 +1,6 @@
 // One packet: judged, answered and taken (01, "Packets").
+#![tactic(auto)]
+
 ghost use Rattle.std.specs.Prelude.{◌≡◌};
 ghost use Rattle.board.specs.State.{state_of};
 ghost use Rattle.port.specs.Packet.{packet_verdict, PacketMeets};
@@ -6,13 +8,13 @@ ghost use Rattle.port.specs.Packet.{packet_verdict, PacketMeets};
 use board::{Board, Place};
 use grounds::{Ground, Verdict};
 
-#[derive(Drop)]
+#[derive(Clone, Copy)]
 pub enum Outcome {
     Reply(u32),
     Refusing(Ground),
 }
 
-#[derive(Drop)]
+#[derive(Clone, Copy)]
 pub struct Answer {
     pub outcome: Outcome,
     pub board: Board,

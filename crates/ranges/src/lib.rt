@@ -1,4 +1,6 @@
 // The ranges of the board and of a place (01, "Refusal numbers": 12).
+#![tactic(auto)]
+
 ghost use Rattle.std.specs.Prelude.{◌≡◌};
 ghost use Rattle.ranges.specs.Ranges.{bstat_in_range, phase_in_range, board_in_range, place_in_range, in_range};
 

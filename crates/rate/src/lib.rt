@@ -1,9 +1,11 @@
 // The rate of a run: cycles by instruction starts, as a double and to two places.
+#![tactic(auto)]
+
 ghost use Rattle.std.specs.Prelude.{◌≡◌};
 ghost use Rattle.rate.specs.Rate.{rate_of, pattern, rate_bits, hundredths};
 
 // "there is no rate where nothing started"
-#[derive(Drop)]
+#[derive(Clone, Copy)]
 pub enum Rate {
     NothingStarted,
     Average(f64),

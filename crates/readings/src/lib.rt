@@ -1,4 +1,6 @@
 // The pod's half (01, "What the desk checks by eye"): a reader that takes one reply at a time, and the reading of a list of replies.
+#![tactic(auto)]
+
 ghost use Rattle.std.specs.Prelude.{◌≡◌, ◌≤◌};
 ghost use Rattle.readings.specs.Reader.{result_word, data_reply, status_reply, first_reply, second_reply, after_reply, done};
 ghost use Rattle.readings.specs.Reading.{answered, reading_of, ReadingMeets};
@@ -8,7 +10,7 @@ use memory::Size;
 use requests::{Request, ResultKind};
 
 // What the closing reply brings.
-#[derive(Drop)]
+#[derive(Clone, Copy)]
 pub enum Outcome {
     Value(u32),
     Complete,
@@ -17,7 +19,7 @@ pub enum Outcome {
 }
 
 // What one reads with, from reply to reply.
-#[derive(Drop)]
+#[derive(Clone, Copy)]
 pub enum Reader {
     // The first result word is still to come.
     First,
@@ -28,7 +30,7 @@ pub enum Reader {
 }
 
 // What reading answers, with the words used.
-#[derive(Drop)]
+#[derive(Clone, Copy)]
 pub enum Reading {
     Ended(Outcome, usize),
     NotYet(usize),

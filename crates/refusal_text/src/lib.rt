@@ -1,4 +1,6 @@
 // The text of refusals: `refused N at C`, `unclear`.
+#![tactic(auto)]
+
 ghost use Rattle.text.specs.Text.{Puts};
 ghost use Rattle.refusal_text.specs.RefusalText.{unclear_text, refused_at, refused_text};
 

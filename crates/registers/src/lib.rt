@@ -1,4 +1,6 @@
 // The debug registers, and what each command leaves of the board (01, "Packets").
+#![tactic(auto)]
+
 ghost use Rattle.std.specs.Prelude.{◌≡◌};
 ghost use Rattle.command.specs.declared.DebugRegister.TheVariants.{Tdr};
 ghost use Rattle.command.specs.Command.{debug_number};

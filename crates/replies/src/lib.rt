@@ -1,4 +1,6 @@
 // The text of the answers to the board's lines.
+#![tactic(auto)]
+
 ghost use Rattle.std.specs.Prelude.{◌≡◌, ◌+◌, get_or};
 ghost use Rattle.text.specs.Text.{Puts};
 ghost use Rattle.replies.specs.ReplyText.{packet_text, halted_text, captured_text, halting_text, seen_text};

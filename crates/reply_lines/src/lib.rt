@@ -1,4 +1,6 @@
 // The desk's language, `gateway`: the answers that it reads, and the words behind the program's name.
+#![tactic(auto)]
+
 ghost use Rattle.std.specs.Prelude.{◌≡◌};
 ghost use Rattle.words.specs.LineWords.{words};
 ghost use Rattle.numbers.specs.Numbers.{numeral};
@@ -7,7 +9,7 @@ ghost use Rattle.reply_lines.specs.ReplyLines.{reply_form, reply_line, reply_of_
 use numbers::{Numbers, Numeral};
 use words::LineKind;
 
-#[derive(Drop)]
+#[derive(Clone, Copy)]
 pub enum ReplyLine {
     // An empty line or a comment.
     Nothing,
@@ -16,7 +18,7 @@ pub enum ReplyLine {
 }
 
 // What the words behind the program's name ask.
-#[derive(Drop)]
+#[derive(Clone, Copy)]
 pub enum TableAsked {
     Table(u32, u32),
     Unclear,

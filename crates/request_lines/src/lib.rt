@@ -1,4 +1,6 @@
 // The desk's language: "A REQUEST is ..".
+#![tactic(auto)]
+
 ghost use Rattle.std.specs.Prelude.{◌≡◌, []};
 ghost use Rattle.words.specs.LineWords.{words, words_from};
 ghost use Rattle.request_lines.specs.RequestLines.{size_behind, plain_request, register_read, register_written};
@@ -9,14 +11,14 @@ use numbers::Numbers;
 use requests::Request;
 
 // What words ask of the pod's half.
-#[derive(Drop)]
+#[derive(Clone, Copy)]
 pub enum Asked {
     For(Request),
     NoRequest,
 }
 
 // The size behind a name, as in `read.b`.
-#[derive(Drop)]
+#[derive(Clone, Copy)]
 pub enum Sized {
     Of(Size),
     NoSize,

@@ -1,4 +1,6 @@
 // The text of requests: words to send, what was read, what an exchange came to.
+#![tactic(auto)]
+
 ghost use Rattle.text.specs.Text.{Puts};
 ghost use Rattle.request_text.specs.RequestText.{outcome_text, words_text, used_text, reading_text, exchange_text};
 

@@ -1,11 +1,13 @@
 // The pod's half (01, "What the desk checks by eye"): requests, their ranges, and the result that each asks for.
+#![tactic(auto)]
+
 ghost use Rattle.std.specs.Prelude.{◌≡◌};
 ghost use Rattle.requests.specs.Request.{data_in_range, in_range, kind_of};
 
 use memory::Size;
 
 // A command of the table with its fields: a register, Rc or n first, or the size and the address, and then the data.
-#[derive(Drop)]
+#[derive(Clone, Copy)]
 pub enum Request {
     Rdreg(u32),
     Wdreg(u32, u32),
@@ -23,7 +25,7 @@ pub enum Request {
 }
 
 // The result that a request asks for.
-#[derive(Drop)]
+#[derive(Clone, Copy)]
 pub enum ResultKind {
     NoResult,
     OfSize(Size),

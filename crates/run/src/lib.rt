@@ -1,4 +1,6 @@
 // A run of packets over a lent list into a lent list of replies (01, "Packets").
+#![tactic(auto)]
+
 ghost use Rattle.std.specs.Prelude.{◌≡◌, ◌≤◌, true, ◌&&◌, leb, length};
 ghost use Rattle.board.specs.State.{state_of};
 ghost use Rattle.run.specs.Run.{ran, all_within, run_verdict, RunMeets};
@@ -9,7 +11,7 @@ use grounds::{Ground, Verdict};
 use plan::Plan;
 use step::Next;
 
-#[derive(Drop)]
+#[derive(Clone, Copy)]
 pub struct Ran {
     pub verdict: Verdict,
     pub board: Board,

@@ -1,4 +1,6 @@
 // Two lists compared to the last element, of bytes and of words.
+#![tactic(auto)]
+
 ghost use Rattle.std.specs.Prelude.{◌≡◌};
 ghost use Rattle.same.specs.SameList.{same};
 

@@ -1,5 +1,7 @@
 // A check of the morning's: a script of lines, each behind its mark, is taken, and what came out is judged and put on the page.
 // `+` marks a line of the desk's language whose answer is shown, any other mark one that prepares.
+#![tactic(auto)]
+
 ghost use Rattle.std.specs.Prelude.{◌≡◌, false, [], ◌∷◌, ◌+◌, ◌≤◌, length, drop};
 ghost use Rattle.text.specs.Text.{Puts};
 ghost use Rattle.answers.specs.Bench.{left};

@@ -1,8 +1,10 @@
 // A script of one of the morning's checks: what its lines leave, and what is shown of their answers.
+#![tactic(auto)]
+
 use answers::Bench;
 
 // The bench after some lines, where what they showed ends in the text, and whether any was shown.
-#[derive(Drop)]
+#[derive(Clone, Copy)]
 pub struct Gone {
     pub bench: Bench,
     pub end: usize,
@@ -10,7 +12,7 @@ pub struct Gone {
 }
 
 // The bench after some checks, where the page goes on, and how many of nine are bad.
-#[derive(Drop)]
+#[derive(Clone, Copy)]
 pub struct Checked {
     pub bench: Bench,
     pub end: usize,

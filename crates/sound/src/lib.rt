@@ -1,1 +1,2 @@
 // What every packet keeps: ranges and widths; no code.
+#![tactic(auto)]

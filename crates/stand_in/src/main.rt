@@ -1,4 +1,6 @@
 // The stand-in: a board that answers the lines of standard input (the desk's language, `stand_in`).
+#![tactic(auto)]
+
 use languages::Language;
 
 fn main() {

@@ -1,4 +1,6 @@
 // The line `state`: all that the board and the place hold.
+#![tactic(auto)]
+
 ghost use Rattle.std.specs.Prelude.{◌≡◌};
 ghost use Rattle.text.specs.Text.{Puts};
 ghost use Rattle.state_line.specs.StateText.{bit_of, fields_text, status_fields, debug_fields, data_fields, address_fields, control_fields, sync_fields};
@@ -14,7 +16,7 @@ fn one_if(flag: bool) -> u32
 }
 
 // Where the text goes on, and the next value.
-#[derive(Drop)]
+#[derive(Clone, Copy)]
 pub struct Put {
     pub at: usize,
     pub next: usize,

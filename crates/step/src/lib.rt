@@ -1,4 +1,6 @@
 // The step of an accepted packet: the reply from the state before it, then the input (01, "Packets").
+#![tactic(auto)]
+
 ghost use Rattle.std.specs.Prelude.{◌≡◌};
 ghost use Rattle.board.specs.Setters.{with_fault};
 ghost use Rattle.board.specs.State.{state_of};
@@ -10,7 +12,7 @@ use command::{Base, Command, Source};
 use plan::Plan;
 
 // The board and the place after an accepted packet.
-#[derive(Drop)]
+#[derive(Clone, Copy)]
 pub struct Next {
     pub board: Board,
     pub place: Place,

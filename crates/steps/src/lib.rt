@@ -1,4 +1,6 @@
 // One step of a walk, on the trace and a cursor: covered, so that the walk itself is thin.
+#![tactic(auto)]
+
 ghost use Rattle.std.specs.Prelude.{◌≡◌, ◌+◌, ◌<◌, true, false};
 ghost use Rattle.cycle.specs.CycleItems.{of_value, of_cycle};
 ghost use Rattle.steps.specs.WalkStep.{cursor_at, value_next, handing, step_read, step_of, StartMeets};
@@ -9,7 +11,7 @@ use trace::Listing;
 
 // Where a walk stands: how its start was judged, the next cycle and what it finds under way, and
 // whether that cycle's value is past.
-#[derive(Drop)]
+#[derive(Clone, Copy)]
 pub struct Cursor {
     pub start: Listing,
     pub cycle: usize,
@@ -18,14 +20,14 @@ pub struct Cursor {
 }
 
 // What a step hands out. A walk whose start was refused hands out that refusal at every step.
-#[derive(Drop)]
+#[derive(Clone, Copy)]
 pub enum Handed {
     Item(Item),
     End,
     Refused { ground: Ground, cycle: usize },
 }
 
-#[derive(Drop)]
+#[derive(Clone, Copy)]
 pub struct Step {
     pub cursor: Cursor,
     pub handed: Handed,

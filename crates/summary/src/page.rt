@@ -10,7 +10,7 @@ use trace::Listing;
 
 // How the trace was judged, with the number of its items; its cycles, instruction starts and rate; and of each code how many items,
 // the first cycle and the last (0 where it has none). All numbers are 0 where the trace was refused.
-#[derive(Drop)]
+#[derive(Clone, Copy)]
 pub struct Page {
     pub judged: Listing,
     pub cycles: u32,

@@ -1,4 +1,6 @@
 // The desk's language: the lines of `talk`.
+#![tactic(auto)]
+
 ghost use Rattle.std.specs.Prelude.{◌≡◌};
 ghost use Rattle.talk_lines.specs.TalkLines.{without_packet, asked_or, either_line, talk_line};
 
@@ -8,7 +10,7 @@ use requests::Request;
 use words::LineKind;
 
 // A line of `stand_in` or a request; in `talk` never a packet.
-#[derive(Drop)]
+#[derive(Clone, Copy)]
 pub enum TalkLine {
     Board(BoardLine),
     Ask(Request),

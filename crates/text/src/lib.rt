@@ -1,4 +1,6 @@
 // The text of answers: bytes and numbers at a place of a text. What does not fit is left out.
+#![tactic(auto)]
+
 ghost use Rattle.std.specs.Prelude.{◌≡◌, [], ◌∷◌, ◌≤◌, ◌<◌, ◌/◌, ◌^◌};
 ghost use Rattle.text.specs.Text.{Puts, flag_text};
 ghost use Rattle.text.specs.NumberText.{digit_text, digits_text, width, hex_text, number_text, decimal_text};

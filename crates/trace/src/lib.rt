@@ -1,4 +1,6 @@
 // The items of a trace counted, and the judgement of a trace, whole or from one of its cycles on.
+#![tactic(auto)]
+
 ghost use Rattle.std.specs.Prelude.{◌≡◌};
 ghost use Rattle.trace.specs.TraceReading.{told_listing, reading, reading_from};
 
@@ -6,7 +8,7 @@ use cycle::Carried;
 use grounds::Ground;
 
 // How many items a trace has, or why it is refused and at which cycle (0 where the ground has none).
-#[derive(Drop)]
+#[derive(Clone, Copy)]
 pub enum Listing {
     Items(usize),
     Refused { ground: Ground, cycle: usize },

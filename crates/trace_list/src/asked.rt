@@ -2,7 +2,7 @@
 ghost use Rattle.std.specs.Prelude.{◌≡◌};
 ghost use Rattle.trace_list.specs.Asked.{decimal, from_of};
 
-#[derive(Drop)]
+#[derive(Clone, Copy)]
 pub enum Asked {
     Whole,
     From(u32),

@@ -1,5 +1,7 @@
 // Lists the trace on standard input, one byte a cycle: a head, then the cycle, code and value of each item in decimal, as a walk
 // hands them out. With an argument FROM, the listing starts at that cycle, by way of the index.
+#![tactic(auto)]
+
 mod asked;
 
 ghost use Rattle.std.specs.Prelude.{◌≡◌, ◌+◌, ◌*◌, ◌≤◌, length};

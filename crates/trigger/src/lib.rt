@@ -1,4 +1,6 @@
 // When a level of TDR fires (01, "Events and firing").
+#![tactic(auto)]
+
 ghost use Rattle.std.specs.Prelude.{◌≡◌};
 ghost use Rattle.trigger.specs.Fired.{fires, fired_level};
 
@@ -10,7 +12,7 @@ use halting::Mark;
 pub mod levels;
 
 // One instruction start; the mark tells whether the instruction is HALT.
-#[derive(Drop)]
+#[derive(Clone, Copy)]
 pub struct Event {
     pub pc: u32,
     pub bus: Bus,

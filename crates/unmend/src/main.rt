@@ -1,4 +1,6 @@
 // Puts a mended trace back as it was recorded, by the list that stands before it on standard input. What it comes to is said on standard error.
+#![tactic(auto)]
+
 use libc::{STDERR_FILENO, STDIN_FILENO, STDOUT_FILENO};
 
 // What was read, unmended in its place and written out.

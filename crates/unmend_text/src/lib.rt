@@ -1,4 +1,6 @@
 // What `unmend` makes of a list and a mended trace behind it, and what it says of them.
+#![tactic(auto)]
+
 ghost use Rattle.std.specs.Prelude.{◌≡◌, ◌-◌, ◌≤◌, length};
 ghost use Rattle.text.specs.Text.{Puts};
 ghost use Rattle.unmend_text.specs.UnmendText.{unmend_told, written_from, BehindMeets, UnmendedMeets, UnmendTells};
@@ -8,7 +10,7 @@ use refusal_text::put_unclear;
 use text::{put_byte, put_text};
 
 // Where the recorded trace begins in the input, and how many of its cycles had been changed.
-#[derive(Drop)]
+#[derive(Clone, Copy)]
 pub enum Unmended {
     Recorded { from: usize, changed: usize },
     Unclear,
@@ -16,7 +18,7 @@ pub enum Unmended {
 }
 
 // Where the text ends, and where the bytes for standard output begin.
-#[derive(Drop)]
+#[derive(Clone, Copy)]
 pub struct UnmendSaid {
     pub end: usize,
     pub from: usize,

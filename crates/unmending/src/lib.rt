@@ -1,4 +1,6 @@
 // The way back from a mended trace and its list to the trace as it was recorded.
+#![tactic(auto)]
+
 ghost use Rattle.std.specs.Prelude.{◌≡◌, ◌&&◌, ◌≤◌, length};
 ghost use Rattle.same.specs.SameList.{same};
 ghost use Rattle.mending.specs.Mending.{mended, changes};

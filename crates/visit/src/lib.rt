@@ -1,4 +1,6 @@
 // A gateway's visit (docs/gateway.md): a machine that is given what to read, and from its state gives the next packet, from a reply its next state.
+#![tactic(auto)]
+
 ghost use Rattle.std.specs.Prelude.{◌≡◌, get_or, length, set};
 ghost use Rattle.building.specs.RequestWords.{built_words};
 ghost use Rattle.asked.specs.VisitRequests.{request_at};
@@ -15,7 +17,7 @@ use readings::{Outcome, Reader};
 const PATIENCE: u32 = 256;
 
 // Why a visit ends not read.
-#[derive(Drop)]
+#[derive(Clone, Copy)]
 pub enum Reason {
     Late,
     NotReady,
@@ -25,7 +27,7 @@ pub enum Reason {
 }
 
 // What the visit is at.
-#[derive(Drop)]
+#[derive(Clone, Copy)]
 pub enum Stage {
     // A packet of a marker.
     Marking(u32),
@@ -35,7 +37,7 @@ pub enum Stage {
     NotRead(Reason),
 }
 
-#[derive(Drop)]
+#[derive(Clone, Copy)]
 pub struct Visit {
     // Of the table.
     pub address: u32,
@@ -47,13 +49,13 @@ pub struct Visit {
     pub stage: Stage,
 }
 
-#[derive(Drop)]
+#[derive(Clone, Copy)]
 pub enum Started {
     Begun(Visit),
     Refused(Ground),
 }
 
-#[derive(Drop)]
+#[derive(Clone, Copy)]
 pub enum Next {
     Send(u32),
     EndsAsRead,
@@ -61,7 +63,7 @@ pub enum Next {
     EndsNotRead(u32, Reason),
 }
 
-#[derive(Drop)]
+#[derive(Clone, Copy)]
 pub enum Handed {
     Given(Outcome),
     Nothing,

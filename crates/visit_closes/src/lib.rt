@@ -1,1 +1,2 @@
 // No code: a visit's notes and the closing replies of demand 3.
+#![tactic(auto)]

@@ -1,1 +1,2 @@
 // No code: the meaning of a visit's requests in turn.
+#![tactic(auto)]

@@ -1,1 +1,2 @@
 // No code: the lines that the program gateway writes.
+#![tactic(auto)]

@@ -1,4 +1,6 @@
 // The desk's language, `gateway`: the text of packets, of what was read and of how the visit ended.
+#![tactic(auto)]
+
 ghost use Rattle.text.specs.Text.{Puts};
 ghost use Rattle.visit_text.specs.VisitText.{control_text, not_read_text, packet_text, read_text, reason_text, register_text, result_text, subject_text};
 ghost use Rattle.visit_text.specs.VisitText.{table_text, value_text};

@@ -1,1 +1,2 @@
 // No code: what the program gateway says of the stand-in.
+#![tactic(auto)]

@@ -1,4 +1,6 @@
 // Prints the page of the file on standard input: its requests at every W.
+#![tactic(auto)]
+
 use libc::STDIN_FILENO;
 
 // The buffers are never too short (waits_laws' WaitsRoomLaws).

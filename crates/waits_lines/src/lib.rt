@@ -1,4 +1,6 @@
 // The lines of the file that `waits` is given (docs/waits.md): taken one after another on a bench, the requests' answers put down row by row.
+#![tactic(auto)]
+
 ghost use Rattle.std.specs.Prelude.{◌+◌, ◌≡◌, drop};
 ghost use Rattle.text.specs.Text.{Puts};
 ghost use Rattle.answers.specs.Bench.{left, over_lent};
@@ -16,7 +18,7 @@ use requests::Request;
 use talk_lines::TalkLine;
 
 // The bench after lines, where their rows end, their packets; whether all were taken, and where the first begins that was not.
-#[derive(Drop)]
+#[derive(Clone, Copy)]
 pub struct Gone {
     pub bench: Bench,
     pub end: usize,
@@ -26,14 +28,14 @@ pub struct Gone {
 }
 
 // A request asked of the bench.
-#[derive(Drop)]
+#[derive(Clone, Copy)]
 struct Asked {
     bench: Bench,
     answer: Exchanged,
 }
 
 // One line taken: the bench after it, where its row ends, its packets.
-#[derive(Drop)]
+#[derive(Clone, Copy)]
 struct Line {
     bench: Bench,
     end: usize,

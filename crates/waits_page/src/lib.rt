@@ -1,4 +1,6 @@
 // The page of `waits` (docs/waits.md): the lines of a file at every W, each held against W = 0.
+#![tactic(auto)]
+
 ghost use Rattle.std.specs.Prelude.{◌≡◌, length};
 ghost use Rattle.text.specs.Text.{Puts};
 ghost use Rattle.waits_setting.specs.WaitsSetting.{came_of, JudgedSo};

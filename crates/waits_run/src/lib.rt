@@ -1,4 +1,6 @@
 // A run of `waits` (docs/waits.md): the lines of a file at one W.
+#![tactic(auto)]
+
 ghost use Rattle.std.specs.Prelude.{◌≤◌, ◌≡◌, length};
 ghost use Rattle.text.specs.Text.{Puts};
 ghost use Rattle.board.specs.Board.{setting_made};
@@ -11,7 +13,7 @@ use text::put_byte;
 use waits_lines::take_lines;
 
 // A run at one W: where its lines end in the text, its packets; whether all lines of the file were taken, and where the first begins that was not.
-#[derive(Drop)]
+#[derive(Clone, Copy)]
 pub struct Ran {
     pub end: usize,
     pub packets: usize,

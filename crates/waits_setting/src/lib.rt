@@ -1,4 +1,6 @@
 // What came out at one W held against what is due, and its line (docs/waits.md).
+#![tactic(auto)]
+
 ghost use Rattle.std.specs.Prelude.{◌≡◌, get_or};
 ghost use Rattle.text.specs.Text.{Puts};
 ghost use Rattle.waits_setting.specs.WaitsSetting.{came_of, is_same, first_other, line_start, other_line, memory_text, judged_text, setting_text, JudgedSo};
@@ -9,7 +11,7 @@ use text::{put_byte, put_decimal, put_hex, put_text};
 use waits_lines::line_end;
 
 // Where the page ends, and whether all was the same.
-#[derive(Drop)]
+#[derive(Clone, Copy)]
 pub struct Judged {
     pub end: usize,
     pub same: bool,

@@ -1,17 +1,19 @@
 // A walk that borrows the trace and remembers its place, one item a step.
+#![tactic(auto)]
+
 ghost use Rattle.std.specs.Prelude.{◌≡◌};
 ghost use Rattle.steps.specs.WalkStep.{StartMeets, step_of};
 ghost use Rattle.walk.specs.Walk.{WalkStarts, stepped_of};
 
 use steps::{Cursor, Handed, Step};
 
-#[derive(Drop)]
+#[derive(Clone, Copy)]
 pub struct Walk<'a> {
     pub trace: &'a [u8],
     pub cursor: Cursor,
 }
 
-#[derive(Drop)]
+#[derive(Clone, Copy)]
 pub struct Stepped<'a> {
     pub walk: Walk<'a>,
     pub handed: Handed,

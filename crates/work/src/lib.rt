@@ -1,4 +1,6 @@
 // What a command does once its last word is in and its waits are over (01, "Packets").
+#![tactic(auto)]
+
 ghost use Rattle.std.specs.Prelude.{◌≡◌};
 ghost use Rattle.work.specs.WorkMirror.{value_ending};
 ghost use Rattle.work.specs.Work.{access_ending, change_ending, ending_of, first_reply, phase_after, chain_by, chain_after, place_after};
@@ -10,7 +12,7 @@ use control::Shown;
 use memory::Size;
 
 // What a command's work ends in.
-#[derive(Drop)]
+#[derive(Clone, Copy)]
 pub enum Ending {
     Complete,
     Failed,

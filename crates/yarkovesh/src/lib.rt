@@ -1,5 +1,7 @@
 // For programs in other languages: a run of packets on a fresh board, the listing of a trace, its page, and a trace mended.
 // `rt staticlib yarkovesh` writes the archive.
+#![tactic(auto)]
+
 ghost use Rattle.std.specs.Prelude.{◌≡◌};
 ghost use Rattle.yarkovesh.specs.Exported.{verdict_number, listing_number, FreshRunMeets, ListMeets};
 ghost use Rattle.yarkovesh.specs.ExportedPage.{rows, PageNumbersMeet};

@@ -1,4 +1,6 @@
 // For programs in other languages: events on a board as set up (01, "Events and firing"). `rt staticlib yarkovesh_events` writes the archive.
+#![tactic(auto)]
+
 ghost use Rattle.std.specs.Prelude.{◌≡◌, ◌+◌, ◌<◌, ◌≤◌, cond, length};
 ghost use Rattle.std.proofs.lemmas.List.Edits.{sets};
 ghost use Rattle.command.specs.Command.{wdmreg};
