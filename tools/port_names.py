@@ -34,18 +34,12 @@ def proofs_and_specs():
 
 def declared(text):
     """The names that a file declares, its records' fields among them."""
-    inside = None
     for line in text.split("\n"):
-        record = RECORD.match(line)
-        if record:
-            inside = len(record[1])
+        if RECORD.match(line):
             continue
-        if not line.strip():
-            inside = None
         it = DECLARED.match(line)
         if it and not line.strip().startswith("--") and it[2] not in ("let", "in", "where"):
-            if len(it[1]) in (0, 2, 4) or (inside is not None and len(it[1]) > inside):
-                yield it[2]
+            yield it[2]
 
 
 def respelled(name):

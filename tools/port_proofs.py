@@ -19,7 +19,7 @@ plain = lambda it: it.replace("_", "-")
 
 
 def norm(it):
-    it = plain(it)
+    it = plain(it).lower()
     if it.endswith("-lem"):
         it = it[:-4]
     return it
@@ -67,7 +67,7 @@ class Function:
     def step(self, old, up, chain):
         """The chain's place whose old step has this name; of several the nearest to so many steps up."""
         want = norm(old)
-        found = [(abs(n - up), i) for n, i in enumerate(chain) if norm(self.of["places"][i][2][0]) == want]
+        found = [(abs(n - up), i) for n, i in enumerate(chain) if want in (norm(self.of["places"][i][2][0]), "is" + norm(self.of["places"][i][2][0]))]
         return min(found)[1] if found else None
 
     def path(self, parts, chain, said):
@@ -93,16 +93,29 @@ class Function:
                         best = it
         if best:
             return best[1], best[2], None
+        for typed in [self.of["typed"][n] for n in chain]:
+            for name, old in typed:
+                if norm(old) == norm(first):
+                    return f"c.type_inv.{name}", rest[1:] if rest[:1] == ["given"] else rest, None
         i = self.step(first, up, chain)
         if i is None:
-            for typed in [self.of["typed"][n] for n in chain]:
-                for name, old in typed:
-                    if norm(old) == norm(first):
-                        return f"c.type_inv.{name}", rest, None
             said.append(f"no step {first}")
             return f"c.{first}", rest, None
         _, _, (_, new), callee, _ = self.of["places"][i]
+        if rest and (new.startswith("if-") or new.endswith("-test")):
+            rest = [{"taken": "true", "left": "false"}.get(rest[0], rest[0])] + rest[1:]
+        arm = self.of["arms"][i]
+        if arm and rest and re.match(r"rest$|keys\d+$", rest[0]):
+            for field, old, path in arm[2]:
+                if norm(old) == norm(first) and not path:
+                    return f"c.{arm[0]}.{field}", rest, None
         return f"c.{new}", rest, callee
+
+    def arm_step(self, parts, chain):
+        """Whether the path ends at a step whose parts are fields of an arm today."""
+        parts = [it for it in parts if it != "before"]
+        arms = [self.of["arms"][i] for i in chain if self.of["arms"][i]]
+        return len(parts) == 1 and any(norm(old) == norm(parts[0]) and path for arm in arms for _, old, path in arm[2])
 
     def rest(self, rest, callee):
         """Fields behind a step; what .auto says goes by the parameter's name."""
@@ -133,8 +146,25 @@ class Function:
                 bound[it[1]] = callee
             return it[0]
 
+        # What was given of an enum is no record of its own today: its parts go by their own paths.
+        again = True
+        while again:
+            again = False
+            for it in re.finditer(r"[ \n]*let (\S+) = (c(?:\.[^\s(){}.,;∙]+)*) in(?=\s)", text):
+                last = it[2].split(".")
+                rest = text[it.end():]
+                given = "given" in last or norm(last[-1]).startswith(("enum-told", "enum-known", "match")) or self.arm_step(last[1:], chain)
+                if given or set(last[1:]) <= {"before"} or re.search(rf"(?<![\w.'-]){re.escape(it[1])}\.before", rest):
+                    rest = re.sub(rf"(?<![\w.'-]){re.escape(it[1])}(?![\w'-])", lambda _: it[2], rest)
+                    text = text[:it.start()] + " " + rest
+                    again = True
+                    break
+        text = text.lstrip() if text.startswith(" ") else text
+        text = re.sub(r"(?<![\w-])not-(?:true|false) (?:_|c(?:\.[^\s(){}.,;∙]+)+|\([^()]*\)) (c(?:\.[^\s(){}.,;∙]+)*\.(?:true|false))", r"\1", text)
         re.sub(r"let (\S+) = (c(?:\.[^\s(){}.,;∙]+)*) in", let, text)
         text = re.sub(r"(?<![\w.'-])c(?:\.[^\s(){}.,;∙]+)+", one, text)
+        # What Rattle knows of a value's range needs no name.
+        text = re.sub(r",\s*c\.known_told[^\s,(){}]*", "", text)
         for name, callee in bound.items():
             text = re.sub(rf"(?<![\w.'-]){re.escape(name)}\.(auto(?:\.[01])+)", lambda it: ".".join([name] + self.rest(it[1].split("."), callee)), text)
         return text
@@ -159,6 +189,7 @@ def invariant(f, what, args, rhs):
     (_, new), names = f.of["loops"][i]
     changed = f.of["changed"][i]
     to = [("l.initial." if c else "l.") + n for n, c in zip(names, changed)] + ["l." + n for n, c in zip(names, changed) if c]
+    args = [it for it in args if not re.fullmatch(r"t\d+", it)]
     if len(to) != len(args):
         return f"{kind}-{new}", "-- LEFT " + " ".join(args) + " FOR " + " ".join(to) + "\n" + rhs
     by = dict(zip(args, to))

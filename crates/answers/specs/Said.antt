@@ -16,7 +16,7 @@ use Rattle.answers.specs.Bench.{Left, port_state}
 -- "`made`, .. or `refused 2 at 0`"
 abbrev pub made_text : Verdict → List ℕ
 made_text Accepted = ascii "made"
-made_text (Refused ground) = refused_text ground
+made_text (Refused why) = refused_text why
 
 -- "`memory N`"
 abbrev pub memory_text : ℕ → List ℕ

@@ -17,7 +17,7 @@ exchanged request bench m = with_state bench (exchange_leaves request (port_stat
 -- "the answer is `value V packets N`, .., or `refused N at 0`"
 abbrev pub exchanged_text : Exchanged → List ℕ
 exchanged_text (Ended outcome packets) = exchange_text outcome packets
-exchanged_text (Refused ground) = refused_text ground
+exchanged_text (Refused why) = refused_text why
 
 -- what the exchange answers over what the port is lent
 abbrev pub exchange_outcome : Request → Bench → List ℕ → Exchanged

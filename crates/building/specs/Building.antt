@@ -21,7 +21,7 @@ pub record BuiltOnPaper : Type 0 where
 
 abbrev pub told_built : Built → BuiltOnPaper
 told_built (Words count) = record { refusal = no_refusal; count = count }
-told_built (RefusedToBuild ground) = record { refusal = refusal_of ground; count = 0 }
+told_built (RefusedToBuild why) = record { refusal = refusal_of why; count = 0 }
 
 -- .. and what it has to say
 abbrev pub due_built : Verdict → Request → BuiltOnPaper

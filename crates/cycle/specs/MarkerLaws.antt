@@ -20,10 +20,10 @@ module _ (trace : List ℕ) (j : ℕ) (announces : marker (pst trace j) ≡ true
   nibbles_left : (k : ℕ) → ((d : ℕ) → d < k → marker (pst trace (j + 1 + d)) ≡ false)
       → ((carried_into trace (j + 1 + k)).marker ≡ pst trace j) × ((carried_into trace (j + 1 + k)).due ≡ nibbles (pst trace j) - k)
   unfolding carried_into after
-  nibbles_left zero alone = rw (add-zero (j + 1), add-one j, announces) (refl, sym-zero)
+  nibbles_left zero alone = rw (add-zero (j + 1), add-one j, announces) (refl, sym_zero)
     where
-      sym-zero : nibbles (pst trace j) ≡ nibbles (pst trace j) - 0
-      sym-zero = omega arith
+      sym_zero : nibbles (pst trace j) ≡ nibbles (pst trace j) - 0
+      sym_zero = omega arith
   nibbles_left (suc k) alone =
       let before = nibbles_left k (λ d h. alone d (omega arith)) in
       rw (add-suc (j + 1) k, alone k (omega arith)) (before.0, omega (arith, before.1))

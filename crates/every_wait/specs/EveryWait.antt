@@ -58,7 +58,7 @@ pub data Result : Type 0 where
 
 abbrev pub result_of : Exchanged → Result
 result_of (Ended outcome packets) = Result.came outcome
-result_of (Refused ground) = Result.refused ground
+result_of (Refused why) = Result.refused why
 
 abbrev pub results : List Request → State → List Result
 results requests s = map result_of (answers requests s)

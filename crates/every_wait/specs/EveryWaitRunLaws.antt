@@ -115,7 +115,7 @@ unfolding state_there
 legal_taken request s f legal = by_verdict (exchange_verdict request (resting s complete)) refl
   where
     by_verdict : (v : Verdict) → exchange_verdict request (resting s complete) ≡ v → LegalTaken request s
-    by_verdict (Refused ground) e = let no : false ≡ true = rw e at legal in let one : ◌≡◌ {A = ℕ} 0 1 = cc in absurd (omega arith)
+    by_verdict (Refused why) e = let no : false ≡ true = rw e at legal in let one : ◌≡◌ {A = ℕ} 0 1 = cc in absurd (omega arith)
     by_verdict Accepted e =
         let h = (accepted_is_within request (resting s complete) e).asked in
         let from = from_rest request s complete h f in

@@ -189,7 +189,7 @@ pub same_request : (w : ℕ) (request : Request) {s : State} → w ≤ 15 → Re
 same_request w request {s} small r = by_verdict (exchange_verdict request s) refl
   where
     by_verdict : (v : Verdict) → exchange_verdict request s ≡ v → SameRequest w request s
-    by_verdict (Refused ground) e =
+    by_verdict (Refused why) e =
         let e' = verdict_at w request small r ∙ e in record { legal = rw (e, e'); result = rw (e, e'); leaves = rw (e, e'); ready = rw e r }
     by_verdict Accepted e =
         let e' = verdict_at w request small r ∙ e in

@@ -20,7 +20,7 @@ ended_there request s = Ended (outcome_there request (rest_scene s)) (packets_fr
 
 abbrev pub answered_as : Verdict → Exchanged → Exchanged
 answered_as Accepted ended = ended
-answered_as (Refused ground) ended = RefusedToExchange ground
+answered_as (Refused why) ended = RefusedToExchange why
 
 -- what an exchange says on paper: its refusal, the reply of Packets (01) that stands for the outcome (0 for data), the value and the packets sent
 pub record ExchangeTold : Type 0 where
@@ -31,7 +31,7 @@ pub record ExchangeTold : Type 0 where
 
 abbrev pub told_exchange : Exchanged → ExchangeTold
 told_exchange (Ended outcome packets) = record { refusal = no_refusal; reply = outcome_reply outcome; value = outcome_value outcome; packets = packets }
-told_exchange (RefusedToExchange ground) = record { refusal = refusal_of ground; reply = 0; value = 0; packets = 0 }
+told_exchange (RefusedToExchange why) = record { refusal = refusal_of why; reply = 0; value = 0; packets = 0 }
 
 -- what the request leaves; "state, memory and result buffers stay as given" where it is refused
 abbrev pub exchange_leaves : Request → State → State

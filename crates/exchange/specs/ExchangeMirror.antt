@@ -16,7 +16,7 @@ abbrev pub answer_of : Reader → ℕ → Exchanged
 answer_of First packets = Refused ImpossibleReply
 answer_of (Second upper) packets = Refused ImpossibleReply
 answer_of (Closed outcome) packets = Ended outcome packets
-answer_of (Bad ground) packets = Refused ground
+answer_of (Bad why) packets = Refused why
 
 -- operand words of 16 bits, addresses and data of 32
 abbrev pub PhaseTyped : Phase → Type 0

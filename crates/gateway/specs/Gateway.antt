@@ -45,7 +45,7 @@ sent_of v notes brought = packet_line v ++ packet_lines (lines_served [] brought
 
 abbrev pub sent_by : Started → List ℕ → List (List ℕ)
 sent_by (Begun v) brought = sent_of v no_notes brought
-sent_by (Refused ground) brought = []
+sent_by (Refused why) brought = []
 
 abbrev pub sent_lines : TableAsked → List ℕ → List (List ℕ)
 sent_lines (Table address longwords) brought = sent_by (start_of address longwords (length no_notes)) brought
@@ -54,7 +54,7 @@ sent_lines Unclear brought = []
 -- "What it read goes to standard error when the visit is over"; what cannot be asked is `unclear`
 abbrev pub told_by : Started → List ℕ → List (List ℕ)
 told_by (Begun v) brought = end_lines (ending v no_notes brought).visit (ending v no_notes brought).notes
-told_by (Refused ground) brought = unclear_line ∷ []
+told_by (Refused why) brought = unclear_line ∷ []
 
 abbrev pub told_lines : TableAsked → List ℕ → List (List ℕ)
 told_lines (Table address longwords) brought = told_by (start_of address longwords (length no_notes)) brought

@@ -61,7 +61,7 @@ told_joined room (Table address longwords) brought = by_start (start_of address 
   where
     by_start : (started : Started) → joined (told_parts_by room started brought) ≡ joined (told_by started brought)
     by_start (Begun v) = end_joined room (ending v no_notes brought).visit (ending v no_notes brought).notes
-    by_start (Refused ground) = refl
+    by_start (Refused why) = refl
 told_joined room Unclear brought = refl
 
 pub told_within : (room : ℕ) (asked : TableAsked) (brought : List ℕ) → 128 ≤ room → EachWithin room (told_parts room asked brought)
@@ -69,7 +69,7 @@ told_within room (Table address longwords) brought h = by_start (start_of addres
   where
     by_start : (started : Started) → EachWithin room (told_parts_by room started brought)
     by_start (Begun v) = end_within room (ending v no_notes brought).visit (ending v no_notes brought).notes h
-    by_start (Refused ground) = (omega arith, tt)
+    by_start (Refused why) = (omega arith, tt)
 told_within room Unclear brought h = (omega arith, tt)
 
 -- a result's line is gathered, or none

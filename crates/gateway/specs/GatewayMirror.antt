@@ -23,7 +23,7 @@ ResultMeets address j Nothing before at after end = (after ≡ before) × (end �
 -- the parts of what is told
 abbrev pub told_parts_by : ℕ → Started → List ℕ → List (List ℕ)
 told_parts_by room (Begun v) brought = end_parts room (ending v no_notes brought).visit (ending v no_notes brought).notes
-told_parts_by room (Refused ground) brought = unclear_line ∷ []
+told_parts_by room (Refused why) brought = unclear_line ∷ []
 
 abbrev pub told_parts : ℕ → TableAsked → List ℕ → List (List ℕ)
 told_parts room (Table address longwords) brought = told_parts_by room (start_of address longwords (length no_notes)) brought

@@ -68,7 +68,7 @@ fn take_lines(
     line: &mut [u8],
     packet: &mut [u8],
 ) -> Visit
-    requires in_bounds { 4096 < length line.old }
+    requires line_is_long { 4096 < length line.old }
     requires shows { Shows start packet.old }
     ensures { VisitMeets (unread_of source.old first.at first.end) start notes.old packet.old
         result notes.new packet.new }

@@ -60,8 +60,8 @@ module _ (trace : List ℕ) (i : ℕ) (within : i ≤ length trace) where
 
     module _ (before : List ℕ) (r : Listing) (after : List ℕ) (met : EntryMeets trace (entry_at trace i) before r after) where
       -- without room it is refused with 11, and the buffer stays
-      pub entry-refused : length before < 2 * (n - (entry_at trace i).items) → (told_listing r ≡ refusal (number BufferTooShort) 0) × (after ≡ before)
-      entry-refused h = (met.answer ∙ short, met.words ∙ ap (words_over (rest_at trace i) before) short)
+      pub entry_refused : length before < 2 * (n - (entry_at trace i).items) → (told_listing r ≡ refusal (number BufferTooShort) 0) × (after ≡ before)
+      entry_refused h = (met.answer ∙ short, met.words ∙ ap (words_over (rest_at trace i) before) short)
         where
           short : listing_from trace i (carried_into trace i) (length before) ≡ refusal (number BufferTooShort) 0
           short = only_room (length before) ∙ short_so _ _ _ (omega (arith, rest_count))
@@ -71,17 +71,17 @@ module _ (trace : List ℕ) (i : ℕ) (within : i ≤ length trace) where
         lists = only_room (length before) ∙ room_so _ _ _ (omega (arith, rest_count)) ∙ ap counted rest_count
 
         -- with room it is not refused, and answers as many items as the trace has beyond those before it
-        pub entry-answers : told_listing r ≡ counted (n - (entry_at trace i).items)
-        entry-answers = met.answer ∙ lists
+        pub entry_answers : told_listing r ≡ counted (n - (entry_at trace i).items)
+        entry_answers = met.answer ∙ lists
 
         -- the buffer holds their words, and beyond them what it held
-        pub entry-stores : after ≡ words (rest_at trace i) ++ drop (2 * (n - (entry_at trace i).items)) before
-        entry-stores =
+        pub entry_stores : after ≡ words (rest_at trace i) ++ drop (2 * (n - (entry_at trace i).items)) before
+        entry_stores =
             met.words ∙ ap (words_over (rest_at trace i) before) lists ∙ ap (λ (k : ℕ). words (rest_at trace i) ++ drop k before) rest_words
 
-        entry-holds : (k : ℕ) → k < 2 * (n - (entry_at trace i).items) → get_or after k 0 ≡ get_or (words (items trace)) (2 * (entry_at trace i).items + k) 0
-        entry-holds k h =
-            ap (λ (w : List ℕ). get_or w k 0) entry-stores
+        entry_holds : (k : ℕ) → k < 2 * (n - (entry_at trace i).items) → get_or after k 0 ≡ get_or (words (items trace)) (2 * (entry_at trace i).items + k) 0
+        entry_holds k h =
+            ap (λ (w : List ℕ). get_or w k 0) entry_stores
             ∙ get_or-append (words (rest_at trace i)) (drop (2 * (n - (entry_at trace i).items)) before) 0 k (omega (arith, rest_words))
             ∙ entry_word k
 
@@ -103,6 +103,6 @@ pub entry_is_the_rest : (trace : List ℕ) (i : ℕ) → i ≤ length trace
     × ((k : ℕ) → k < 2 * (n - (entry_at trace i).items) → get_or after k 0 ≡ get_or full (2 * (entry_at trace i).items + k) 0)
 entry_is_the_rest trace i within n given full s whole listed before after r met room =
     let reads = listed_read trace (length given) n (sym whole.answer ∙ listed) in
-    let same = entry-holds trace i within n reads before r after met room in
+    let same = entry_holds trace i within n reads before r after met room in
     let held = full_holds trace given full s n whole listed in
-    (entry-answers trace i within n reads before r after met room, λ k h. same k h ∙ sym (held (2 * (entry_at trace i).items + k) (omega arith)))
+    (entry_answers trace i within n reads before r after met room, λ k h. same k h ∙ sym (held (2 * (entry_at trace i).items + k) (omega arith)))

@@ -68,13 +68,13 @@ read_on : (v : Visit) (sent : ℕ) (reader : Reader) → done reader ≡ false �
 read_on v sent First waits patient = rw (lt-ltb sent patience patient)
 read_on v sent (Second upper) waits patient = rw (lt-ltb sent patience patient)
 read_on v sent (Closed o) waits patient = cc
-read_on v sent (Bad ground) waits patient = cc
+read_on v sent (Bad why) waits patient = cc
 
 noted_on : (j : ℕ) (reader : Reader) (notes : List ℕ) → done reader ≡ false → noted_by j reader notes ≡ notes
 noted_on j First notes waits = refl
 noted_on j (Second upper) notes waits = refl
 noted_on j (Closed o) notes waits = cc
-noted_on j (Bad ground) notes waits = cc
+noted_on j (Bad why) notes waits = cc
 
 -- ---- a packet of a marker, of a request's command word, and of what follows it
 module _ (address ends at p : ℕ) (notes : List ℕ) (s : State) (small : reply_now s.place ≤ 0x1FFFF) (more : p < last_counted) where

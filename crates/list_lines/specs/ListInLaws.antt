@@ -25,13 +25,13 @@ module _ (room : ℕ) (bytes : List ℕ) where
     no_changed f = rw (e, f)
 
     module _ {changed more : ℕ} (f : named (ascii "changed=") 65536 10 (drop used bytes) ≡ Read changed more) where
-      pub no-places : room < changed → list_in room bytes ≡ no_list []
+      pub no_places : room < changed → list_in room bytes ≡ no_list []
       unfolding list_in
-      no-places h = rw (e, f, lt-ltb room changed h)
+      no_places h = rw (e, f, lt-ltb room changed h)
 
-      pub some-lines : changed ≤ room → list_in room bytes ≡ list_behind cycles changed (used + more) (lines_in changed (drop (used + more) bytes))
+      pub some_lines : changed ≤ room → list_in room bytes ≡ list_behind cycles changed (used + more) (lines_in changed (drop (used + more) bytes))
       unfolding list_in
-      some-lines h = rw (e, f, le-ltb room changed h)
+      some_lines h = rw (e, f, le-ltb room changed h)
 
 -- where there is none, nothing is handed over
 pub none_met : (words before : List ℕ) {r : ListRead} {after : List ℕ} → r ≡ unlisted → after ≡ sets before 0 words → ListMeets (no_list words) before r after
@@ -101,9 +101,9 @@ clear_list room bytes c = by_cycles (named (ascii "mended cycles=") 65536 32 byt
         → (f : Field) → named (ascii "changed=") 65536 10 (drop used bytes) ≡ f → ClearList (list_in room bytes) room (length bytes)
     by_changed {cycles} {used} e (Read changed more) f =
         by_test (ltb room changed)
-        (λ t. none (no-places room bytes e f (ltb-true room changed t)))
+        (λ t. none (no_places room bytes e f (ltb-true room changed t)))
         (λ t. let fits = ltb-false room changed t in
-        let is = some-lines room bytes e f fits in
+        let is = some_lines room bytes e f fits in
         let one = named_took (ascii "mended cycles=") 65536 32 bytes cycles used e in
         let two = named_took (ascii "changed=") 65536 10 (drop used bytes) changed more f in
         rw is (clear_behind room cycles changed (used + more) bytes fits (omega (arith, length-drop used bytes)) (rw is at c)))

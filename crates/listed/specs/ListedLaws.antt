@@ -39,9 +39,9 @@ items_out words k h = by_rest (drop (2 * k) words) (omega (arith, length-drop (2
 
 -- what the lister refuses, and what it lists: the items' words at the front of the buffer
 module _ (trace before after : List ℕ) (r : Listing) (m : ListingMeets trace before r after) where
-  pub refused_text : (ground : Ground) (cycle : ℕ) → r ≡ Refused ground cycle → listed_text trace (length before) ≡ refused_at ground cycle
+  pub refused_text : (why : Ground) (cycle : ℕ) → r ≡ Refused why cycle → listed_text trace (length before) ≡ refused_at why cycle
   unfolding listed_text
-  refused_text ground cycle e = ap (told_text trace) (sym m.answer ∙ ap told_listing e)
+  refused_text why cycle e = ap (told_text trace) (sym m.answer ∙ ap told_listing e)
 
   module _ (n : ℕ) (e : r ≡ Items n) where
     told : listing trace (length before) ≡ counted n

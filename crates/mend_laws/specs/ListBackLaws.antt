@@ -9,7 +9,7 @@ use Rattle.text.specs.NumberText.{digit_text, digits_text, width_from, width, de
 use Rattle.text.specs.NumberTextLaws.{digits_length, left_next, width_holds}
 use Rattle.list_lines.specs.declared.Field.TheVariants.{Read}
 use Rattle.list_lines.specs.ListLines.{digits, number, named, line_word, listed, lines_in, list_behind, list_in}
-use Rattle.list_lines.specs.ListInLaws.{some-lines}
+use Rattle.list_lines.specs.ListInLaws.{some_lines}
 use Rattle.mending.specs.Mending.{mended_pst, mended, changes}
 use Rattle.mending.specs.MendingStoreLaws.{retold_length, changes_at_most}
 use Rattle.mend_text.specs.MendText.{change_line, change_lines, list_text}
@@ -128,7 +128,7 @@ pub list_back : (room cycles from to : ℕ) (words trace : List ℕ) → cycles 
     → list_in room (list_text cycles words ++ trace)
     ≡ record { clear = true; cycles = cycles; changed = length words; from = length (list_text cycles words); words = words }
 list_back room cycles from to words trace n k fits h r =
-    ap (list_in room) apart ∙ some-lines room bytes head changed fits ∙ ap (list_behind cycles (length words) (used + more)) lines ∙ rw count
+    ap (list_in room) apart ∙ some_lines room bytes head changed fits ∙ ap (list_behind cycles (length words) (used + more)) lines ∙ rw count
   where
     N : List ℕ
     N = decimal_text cycles

@@ -9,7 +9,7 @@ use Rattle.text.specs.NumberText.{width_from, width, decimal_text}
 use Rattle.text.specs.NumberTextLaws.{digits_length}
 use Rattle.mending.specs.Mending.{mended_pst, mended, changes}
 use Rattle.mending.specs.MendingAnswer.{mending}
-use Rattle.mending.specs.MendingAnswerLaws.{mending-done}
+use Rattle.mending.specs.MendingAnswerLaws.{mending_done}
 use Rattle.mending.specs.MendingStoreLaws.{retold_length, changes_at_most}
 use Rattle.mend_text.specs.declared.Said.{Said}
 use Rattle.mend_text.specs.MendText.{counts_line, change_line, change_lines, list_text, judged_for, MendSaid}
@@ -79,7 +79,7 @@ head_length cycles changed h k =
 module _ (trace : List ℕ) (short : length trace ≤ 65536) where
   -- with a place for each cycle nothing is refused
   pub room_enough : mending trace 65536 65536 ≡ counted (length (changes trace))
-  room_enough = mending-done trace 65536 65536 short short (omega (arith, changes_at_most trace (length trace)))
+  room_enough = mending_done trace 65536 65536 short short (omega (arith, changes_at_most trace (length trace)))
 
   -- a text of 600,000 bytes holds the longest list: its head has 34 at most, each line 9
   pub list_enough : length (list_text (length trace) (changes trace)) ≤ 600000

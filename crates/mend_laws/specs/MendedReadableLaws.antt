@@ -81,15 +81,15 @@ module _ (trace : List ℕ) where
         a : Announced trace (cut_short trace) (length trace)
         a = cut_announced trace due
 
-        wiped-falls : i ≡ cut_short trace → (carried_into (mended trace) (suc i)).due ≡ 0
-        wiped-falls same =
+        wiped_falls : i ≡ cut_short trace → (carried_into (mended trace) (suc i)).due ≡ 0
+        wiped_falls same =
             let none : marker (pst (mended trace) i) ≡ false = rw (pst_mended i (omega arith), same, at_cut trace) in
             due_falls (mended trace) i none
             ∙ rw (carried_to_cut i (omega arith) (omega arith), same)
             (kept_marker_due (found trace (cut_short trace)).due (pst trace (cut_short trace)) a.stands)
 
-        stays-none : (i ≡ cut_short trace → ⊥) → (carried_into (mended trace) i).due ≡ 0 → (carried_into (mended trace) (suc i)).due ≡ 0
-        stays-none other before =
+        stays_none : (i ≡ cut_short trace → ⊥) → (carried_into (mended trace) i).due ≡ 0 → (carried_into (mended trace) (suc i)).due ≡ 0
+        stays_none other before =
             let later : latest_marker trace (length trace) < i = omega (arith, cut_latest trace due) in
             let none : marker (pst (mended trace) i) ≡ false
             = rw (pst_mended i (omega arith), elsewhere trace i other) (none_later trace (length trace) i later (omega arith)) in
@@ -98,9 +98,9 @@ module _ (trace : List ℕ) where
         by_place : (t : Bool) → eqb i (cut_short trace) ≡ t
             → (cut_short trace < i → i ≤ length trace → (carried_into (mended trace) i).due ≡ 0)
             → (carried_into (mended trace) (suc i)).due ≡ 0
-        by_place true e before = wiped-falls (eqb-true i (cut_short trace) e)
+        by_place true e before = wiped_falls (eqb-true i (cut_short trace) e)
         by_place false e before =
-            let other = eqb-false i (cut_short trace) e in stays-none other (before (omega (arith, other)) (omega arith))
+            let other = eqb-false i (cut_short trace) e in stays_none other (before (omega (arith, other)) (omega arith))
 
   -- each cycle passes: wiped by the third rule, as the first two leave it, or with nothing due
   passes_mended : (i : ℕ) → i < length trace → Passes (mended trace) i

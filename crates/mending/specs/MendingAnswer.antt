@@ -9,7 +9,7 @@ use Rattle.mending.specs.Mending.{mended, changes}
 -- 01's number and values for each case of the answer; what is counted are the changed cycles
 abbrev pub told_mending : Mending → Told
 told_mending (Changed n) = counted n
-told_mending (Refused ground) = refusal (number ground) 0
+told_mending (Refused why) = refusal (number why) 0
 
 -- "Refusals: 7, then 11 for the mended trace, then 11 for the list", where there is room for so many bytes and so many words
 unfoldable pub mending : List ℕ → ℕ → ℕ → Told

@@ -28,8 +28,8 @@ module _ (trace : List ℕ) (bytes words : ℕ) where
       pub no_room_for_list : words < length (changes trace) → mending trace bytes words ≡ refusal 11 0
       no_room_for_list h = judged_on ∙ room_so (length trace) bytes _ room ∙ short_so (length (changes trace)) words _ h
 
-      pub mending-done : length (changes trace) ≤ words → mending trace bytes words ≡ counted (length (changes trace))
-      mending-done h = judged_on ∙ room_so (length trace) bytes _ room ∙ room_so (length (changes trace)) words _ h
+      pub mending_done : length (changes trace) ≤ words → mending trace bytes words ≡ counted (length (changes trace))
+      mending_done h = judged_on ∙ room_so (length trace) bytes _ room ∙ room_so (length (changes trace)) words _ h
 
 -- what is counted are the changed cycles
 passed_by : (t : Bool) (k c n : ℕ) (told : Told) → cond t (refusal k c) told ≡ counted n → told ≡ counted n
@@ -75,7 +75,7 @@ pub record MendedInto (trace : List ℕ) (r : Mending) (bytes words : List ℕ) 
 pub mended_into : {trace bytes words bytes' words' : List ℕ} {r : Mending} → MendingMeets trace bytes words r bytes' words'
     → length trace ≤ 65536 → length trace ≤ length bytes → length trace ≤ length words → MendedInto trace r bytes' words'
 mended_into {trace} {bytes} {words} {bytes'} {words'} {r} m short room places =
-    let done = mending-done trace (length bytes) (length words) short room (omega (arith, changes_at_most trace (length trace))) in
+    let done = mending_done trace (length bytes) (length words) short room (omega (arith, changes_at_most trace (length trace))) in
     record {
       answer = told_mending_unique r (Changed (length (changes trace))) (m.answer ∙ done);
       cycles = rw (m.cycles, done) (take_at (mended trace) _ (length trace) (retold_length (mended_pst trace) trace (length trace)));

@@ -143,10 +143,10 @@ fn put_change(list: &mut [u32], at: usize, i: usize, old: u8, left: u8) -> usize
 
 // The mended trace and the list, each from the front of its buffer on.
 fn put_mended(trace: &[u8], bytes: &mut [u8], list: &mut [u32], cut: usize)
-    requires trace_len_bound { (length trace.now ≤ 65536) × (length trace.now ≤ length bytes.old) }
-    requires trace_in_bounds { (length (changes trace.now) ≤ length list.old) × (cut ≡ cut_short trace.now) }
-    ensures bytes_after { bytes.new ≡ sets bytes.old 0 (mended trace.now) }
-    ensures list_after { list.new ≡ sets list.old 0 (changes trace.now) }
+    requires trace_fits { (length trace.now ≤ 65536) × (length trace.now ≤ length bytes.old) }
+    requires changes_fit { (length (changes trace.now) ≤ length list.old) × (cut ≡ cut_short trace.now) }
+    ensures mends { bytes.new ≡ sets bytes.old 0 (mended trace.now) }
+    ensures lists { list.new ≡ sets list.old 0 (changes trace.now) }
 {
     let mut due = 0u8;
     let mut at = 0usize;

@@ -83,7 +83,7 @@ page_lines page items index =
 -- the lines, "or prints `refused N at C`"
 abbrev pub lines_by : Page → List ℕ → Listing → List ℕ
 lines_by page index (Items items) = page_lines page items index
-lines_by page index (Refused ground cycle) = line (refused_at ground cycle)
+lines_by page index (Refused why cycle) = line (refused_at why cycle)
 
 -- what is printed of a page and its index
 abbrev pub page_text : Page → List ℕ → List ℕ

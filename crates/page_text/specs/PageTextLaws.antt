@@ -99,6 +99,6 @@ page_printed {trace} {before} {after} {r} met = by_judged r.judged refl
         let verdict : page_verdict trace (length before) ≡ counted items = sym met.answer ∙ ap told_listing e in
         let page : r ≡ page_of trace items = met.page ∙ ap (page_by trace) e in
         rw (met.words, verdict, page, take_at W (drop (length W) before) n (length_index trace), take_all n W (omega (arith, length_index trace)))
-    by_judged (Refused ground cycle) e =
-        let verdict : page_verdict trace (length before) ≡ refusal (number ground) cycle = sym met.answer ∙ ap told_listing e in
+    by_judged (Refused why cycle) e =
+        let verdict : page_verdict trace (length before) ≡ refusal (number why) cycle = sym met.answer ∙ ap told_listing e in
         rw (e, verdict)

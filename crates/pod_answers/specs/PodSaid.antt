@@ -16,7 +16,7 @@ use Rattle.request_text.specs.RequestText.{words_text, reading_text}
 -- "`words X X ..`, .. or `refused N at 0`"
 abbrev pub built_by : Verdict → List ℕ → List ℕ
 built_by Accepted words = words_text words
-built_by (Refused ground) words = refused_text ground
+built_by (Refused why) words = refused_text why
 
 -- no request has more than five words
 abbrev pub built_text : Request → List ℕ

@@ -41,7 +41,7 @@ module _ (request : Request) (before after : List ℕ) (count : ℕ) where
       let same : count ≡ length (built_words request) = ap (λ (p : BuiltOnPaper). p.count) e in
       let taken : take count after ≡ built_words request = rw f (take_at (built_words request) _ count (sym same)) in
       (omega (arith, room refl), ap words_text taken)
-  words_by (Refused ground) room e f = absurd (number_is_not_zero ground (sym (ap (λ (p : BuiltOnPaper). p.refusal.number) e)))
+  words_by (Refused why) room e f = absurd (number_is_not_zero why (sym (ap (λ (p : BuiltOnPaper). p.refusal.number) e)))
 
   words_there : length before ≡ 5 → BuildingMeets request before (Words count) after
       → (count ≤ length before) × (words_text (take count after) ≡ built_text request)
@@ -53,15 +53,15 @@ pub words_built : {request : Request} {before after : List ℕ} {r : Built} {cou
     → r ≡ Words count → (count ≤ length before) × (words_text (take count after) ≡ built_text request)
 words_built {request} {before} {after} {r} {count} five meets e = words_there request before after count five (rw e at meets)
 
-refused_by : (request : Request) (ground : Ground) (v : Verdict) → told_built (RefusedToBuild ground) ≡ due_built v request
-    → refused_text ground ≡ built_by v (built_words request)
-refused_by request ground Accepted e = absurd (number_is_not_zero ground (ap (λ (p : BuiltOnPaper). p.refusal.number) e))
-refused_by request ground (Refused other) e = ap refused_text (same_number_same_ground ground other (ap (λ (p : BuiltOnPaper). p.refusal.number) e))
+refused_by : (request : Request) (why : Ground) (v : Verdict) → told_built (RefusedToBuild why) ≡ due_built v request
+    → refused_text why ≡ built_by v (built_words request)
+refused_by request why Accepted e = absurd (number_is_not_zero why (ap (λ (p : BuiltOnPaper). p.refusal.number) e))
+refused_by request why (Refused other) e = ap refused_text (same_number_same_ground why other (ap (λ (p : BuiltOnPaper). p.refusal.number) e))
 
-pub refused_built : {request : Request} {before after : List ℕ} {r : Built} {ground : Ground} → length before ≡ 5 → BuildingMeets request before r after
-    → r ≡ RefusedToBuild ground → refused_text ground ≡ built_text request
-refused_built {request} {before} {after} {r} {ground} five meets e =
-    rw five at (refused_by request ground (building_verdict request (length before)) (ap told_built (sym e) ∙ meets.answer))
+pub refused_built : {request : Request} {before after : List ℕ} {r : Built} {why : Ground} → length before ≡ 5 → BuildingMeets request before r after
+    → r ≡ RefusedToBuild why → refused_text why ≡ built_text request
+refused_built {request} {before} {after} {r} {why} five meets e =
+    rw five at (refused_by request why (building_verdict request (length before)) (ap told_built (sym e) ∙ meets.answer))
 
 pub reading_answered : {request : Request} {replies : List ℕ} {r : Reading} → ReadingMeets request replies r → r ≡ reading request replies
 reading_answered {request} {replies} {r} meets = told_reading_unique r (reading request replies) meets.answer

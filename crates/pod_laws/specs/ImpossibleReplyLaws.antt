@@ -30,7 +30,7 @@ abbrev is_bad : Reader → Bool
 is_bad First = false
 is_bad (Second upper) = false
 is_bad (Closed outcome) = false
-is_bad (Bad ground) = true
+is_bad (Bad why) = true
 
 not_bad : {A : Type 0} {d : Reader} {g : Ground} → d ≡ Bad g → is_bad d ≡ false → A
 not_bad e n = absurd (true≢false (sym (ap is_bad e) ∙ n))
@@ -176,7 +176,7 @@ refused_bad : (d : Reader) (n : ℕ) (g : Ground) → answered d n ≡ Refused g
 refused_bad First n g e = cc
 refused_bad (Second upper) n g e = cc
 refused_bad (Closed outcome) n g e = cc
-refused_bad (Bad ground) n g e = cc
+refused_bad (Bad why) n g e = cc
 
 -- grounds 13 and 14 are two
 not_thirteen : {A : Type 0} → Refused RequestOutOfRange ≡ Refused ImpossibleReply → A

@@ -16,13 +16,13 @@ open_answer : (d : Reader) (n : ℕ) → done d ≡ false → answered d n ≡ N
 open_answer First n h = refl
 open_answer (Second upper) n h = refl
 open_answer (Closed outcome) n h = cc
-open_answer (Bad ground) n h = cc
+open_answer (Bad why) n h = cc
 
 pub not_yet_open : (d : Reader) (n m : ℕ) → answered d n ≡ NotYet m → done d ≡ false
 not_yet_open First n m e = refl
 not_yet_open (Second upper) n m e = refl
 not_yet_open (Closed outcome) n m e = cc
-not_yet_open (Bad ground) n m e = cc
+not_yet_open (Bad why) n m e = cc
 
 open_uses_all : (k : ResultKind) (d : Reader) (rs : List ℕ) → done (after_replies k d rs) ≡ false → used k d rs ≡ length rs
 open_uses_all k d [] h = refl

@@ -28,7 +28,7 @@ pub record PacketTold : Type 0 where
 
 abbrev pub told_packet : Outcome → PacketTold
 told_packet (Reply reply) = record { refusal = no_refusal; reply = reply }
-told_packet (Refusing ground) = record { refusal = refusal_of ground; reply = 0 }
+told_packet (Refusing why) = record { refusal = refusal_of why; reply = 0 }
 
 abbrev pub answered : Verdict → ℕ → Outcome
 answered Accepted reply = Reply reply

@@ -25,7 +25,7 @@ use Rattle.promises.specs.TakenWords.{Word, ending_found, ended, stage}
 use Rattle.promises.specs.TakenWords.Stage.{upper_due, closed}
 use Rattle.promises.specs.Environment.{Found, found_at, begins, goes_on, shows_upper, heard}
 use Rattle.laws.specs.TestLaws.{either}
-use Rattle.promises.specs.StageLaws.{not_none, Open, stage_due, stage_waiting, stage-ended, stage-shown, ending_held}
+use Rattle.promises.specs.StageLaws.{not_none, Open, stage_due, stage_waiting, stage_ended, stage_shown, ending_held}
 use Rattle.promises.specs.OperandLaws.{held, held_end, any_c_end}
 
 -- a word that waits, with so many packets still to wait and the address that the port holds
@@ -72,7 +72,7 @@ module _ (w : ℕ) (s : State) (c : Command) (o : Word) (os : List Word) (found 
       let address = address_in (operand_words c) t in
       let ending = ending_of c s.board address (access_of c s.memory s.place.pointer address) in
       let ends : ending_found o ≡ ending = rw (← found.board, ← found.pointer, ← found.memory) (ending_held w c o t h) in
-      tells_ended w ending o os (stage-ended w c o t h e ∙ ap (ended 0) ends) (stage-shown w c o t h e ∙ ap (ended 1) ends)
+      tells_ended w ending o os (stage_ended w c o t h e ∙ ap (ended 0) ends) (stage_shown w c o t h e ∙ ap (ended 1) ends)
 
   tells_work_after : (more : ℕ) (t : Operands) (value : ℕ) → Open w c 0 t o → o.waited + more ≡ waits_of w c
       → PlanTells (work_after more c (address_in (operand_words c) t) value)

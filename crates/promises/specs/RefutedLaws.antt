@@ -73,14 +73,14 @@ module _ (k : Machine) (moves : (s : State) (word : ℕ) → at_rest (k.step s w
       let taken : k.verdict (lending (after k (made 2) five) no_memory) 0 ≡ Accepted =
       (d.rest 2 (omega arith) five).accepted no_memory 0 (omega arith) (omega arith) in
       let brought : at_rest (after k (after k (made 2) five) (packet no_memory 0 ∷ [])).place.phase ≡ true =
-      ((d.rest 2 (omega arith) []).nops (replicate 6 no_memory) (sends no_memory (replicate 6 0)) six-nops).enough (omega arith) in
+      ((d.rest 2 (omega arith) []).nops (replicate 6 no_memory) (sends no_memory (replicate 6 0)) six_nops).enough (omega arith) in
       true≢false (sym (rw taken at brought) ∙ moves (lending (after k (made 2) five) no_memory) 0)
     where
       limit : length no_memory.bytes ≤ 65536
       limit = omega arith
 
-      six-nops : Idle (replicate 6 no_memory) (sends no_memory (replicate 6 0))
-      six-nops =
+      six_nops : Idle (replicate 6 no_memory) (sends no_memory (replicate 6 0))
+      six_nops =
           Idle.nop no_memory limit (Idle.nop no_memory limit (Idle.nop no_memory limit
           (Idle.nop no_memory limit (Idle.nop no_memory limit (Idle.nop no_memory limit Idle.none)))))
 

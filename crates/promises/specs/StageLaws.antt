@@ -55,13 +55,13 @@ module _ (w : ℕ) (c : Command) (o : Word) where
       waited : eqb o.waited (waits_of o.board.w (decoded o.packet)) ≡ true
       waited = rw (h.same, h.setting) (eq-eqb _ _ e)
 
-      pub stage-ended : stage o ≡ ended 0 (ending_found o)
+      pub stage_ended : stage o ≡ ended 0 (ending_found o)
       unfolding stage
-      stage-ended = rw (h.judged, h.clear, there, waited, h.unshown)
+      stage_ended = rw (h.judged, h.clear, there, waited, h.unshown)
 
-      pub stage-shown : stage (shows_upper o) ≡ ended 1 (ending_found o)
+      pub stage_shown : stage (shows_upper o) ≡ ended 1 (ending_found o)
       unfolding stage
-      stage-shown = rw (h.judged, h.clear, there, waited, h.unshown)
+      stage_shown = rw (h.judged, h.clear, there, waited, h.unshown)
 
     pub ending_held : ending_found o ≡ ending_of c o.board (address_in (operand_words c) t) (access_of c o.memory o.pointer (address_in (operand_words c) t))
     ending_held = cc (ending_sent c o.board o.memory o.pointer o.operands all_there)

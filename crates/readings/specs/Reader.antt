@@ -39,7 +39,7 @@ abbrev pub after_reply : ResultKind → Reader → ℕ → Reader
 after_reply kind First reply = cond (leb reply 0x1FFFF) (first_reply kind reply) (Bad WordTooLarge)
 after_reply kind (Second upper) reply = cond (leb reply 0x1FFFF) (second_reply upper reply) (Bad WordTooLarge)
 after_reply kind (Closed outcome) reply = Closed outcome
-after_reply kind (Bad ground) reply = Bad ground
+after_reply kind (Bad why) reply = Bad why
 
 -- the reader after all replies of a list
 abbrev pub after_replies : ResultKind → Reader → List ℕ → Reader
@@ -51,7 +51,7 @@ abbrev pub done : Reader → Bool
 done First = false
 done (Second upper) = false
 done (Closed outcome) = true
-done (Bad ground) = true
+done (Bad why) = true
 
 -- "the words used": those that a reader takes until it is done
 abbrev pub used : ResultKind → Reader → List ℕ → ℕ

@@ -14,7 +14,7 @@ done_stays k d [] h = refl
 done_stays k First (r ∷ rs) h = cc
 done_stays k (Second upper) (r ∷ rs) h = cc
 done_stays k (Closed outcome) (r ∷ rs) h = done_stays k (Closed outcome) rs h
-done_stays k (Bad ground) (r ∷ rs) h = done_stays k (Bad ground) rs h
+done_stays k (Bad why) (r ∷ rs) h = done_stays k (Bad why) rs h
 
 -- .. and takes no word more
 pub done_uses_none : (k : ResultKind) (d : Reader) (rs : List ℕ) → done d ≡ true → used k d rs ≡ 0

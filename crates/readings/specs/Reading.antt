@@ -19,7 +19,7 @@ abbrev pub answered : Reader → ℕ → Reading
 answered First n = NotYet n
 answered (Second upper) n = NotYet n
 answered (Closed outcome) n = Ended outcome n
-answered (Bad ground) n = Refused ground
+answered (Bad why) n = Refused why
 
 abbrev pub reading_of : ResultKind → List ℕ → Reading
 reading_of kind replies = answered (after_replies kind First replies) (used kind First replies)
@@ -52,7 +52,7 @@ outcome_value Illegal = 0
 abbrev pub told_reading : Reading → ReadingOnPaper
 told_reading (Ended outcome n) = record { refusal = no_refusal; reply = outcome_reply outcome; value = outcome_value outcome; words = n }
 told_reading (NotYet n) = record { refusal = no_refusal; reply = not_ready; value = 0; words = n }
-told_reading (Refused ground) = record { refusal = refusal_of ground; reply = 0; value = 0; words = 0 }
+told_reading (Refused why) = record { refusal = refusal_of why; reply = 0; value = 0; words = 0 }
 
 -- the promise of reading
 pub record ReadingMeets (request : Request) (replies : List ℕ) (r : Reading) : Type 0 where

@@ -12,8 +12,8 @@ abbrev pub refused_by : ℕ → ℕ → List ℕ
 refused_by n cycle = ascii "refused " ++ decimal_text n ++ ascii " at " ++ decimal_text cycle
 
 abbrev pub refused_at : Ground → ℕ → List ℕ
-refused_at ground cycle = refused_by (number ground) cycle
+refused_at why cycle = refused_by (number why) cycle
 
 -- only a trace is refused at a cycle
 abbrev pub refused_text : Ground → List ℕ
-refused_text ground = refused_at ground 0
+refused_text why = refused_at why 0

@@ -14,18 +14,18 @@ pub fn put_unclear(text: &mut [u8]) -> usize
 }
 
 // `refused N at C`
-pub fn put_refusal_at(text: &mut [u8], ground: Ground, cycle: usize) -> usize
-    ensures { Puts text.old 0 (refused_at ground cycle) text.new result }
+pub fn put_refusal_at(text: &mut [u8], why: Ground, cycle: usize) -> usize
+    ensures { Puts text.old 0 (refused_at why cycle) text.new result }
 {
     let at = put_text(text, 0, b"refused ");
-    let at = put_decimal(text, at, grounds::number_of(ground) as usize);
+    let at = put_decimal(text, at, grounds::number_of(why) as usize);
     let at = put_text(text, at, b" at ");
     put_decimal(text, at, cycle)
 }
 
 // `refused N at 0`: only a trace is refused at a cycle.
-pub fn put_refusal(text: &mut [u8], ground: Ground) -> usize
-    ensures { Puts text.old 0 (refused_text ground) text.new result }
+pub fn put_refusal(text: &mut [u8], why: Ground) -> usize
+    ensures { Puts text.old 0 (refused_text why) text.new result }
 {
-    put_refusal_at(text, ground, 0)
+    put_refusal_at(text, why, 0)
 }

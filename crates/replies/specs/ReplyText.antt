@@ -19,7 +19,7 @@ use Rattle.refusal_text.specs.RefusalText.{refused_text}
 -- "`reply X` with five digits, or `refused N at 0`"
 abbrev pub packet_text : Outcome → List ℕ
 packet_text (Reply reply) = ascii "reply " ++ hex_text 5 reply
-packet_text (Refusing ground) = refused_text ground
+packet_text (Refusing why) = refused_text why
 
 -- "halted H interrupt I"
 abbrev pub halted_text : Bool → Bool → List ℕ
@@ -43,7 +43,7 @@ seen_text seen =
     ++ halting_text seen.halting
 
 abbrev pub event_text : EventOutcome → List ℕ
-event_text (event.Refused ground) = refused_text ground
+event_text (event.Refused why) = refused_text why
 event_text (event.Taken seen) = seen_text seen
 
 -- "`breakpoint halted H interrupt I`"
@@ -51,7 +51,7 @@ abbrev pub pressed_text : Pressed → List ℕ
 pressed_text pressed = ascii "breakpoint" ++ halted_text pressed.halted pressed.interrupt
 
 abbrev pub breakpoint_text : BreakpointOutcome → List ℕ
-breakpoint_text (breakpoint.Refused ground) = refused_text ground
+breakpoint_text (breakpoint.Refused why) = refused_text why
 breakpoint_text (breakpoint.Taken pressed) = pressed_text pressed
 
 -- so many bytes from a place on, two digits each; one that is not there counts as 0

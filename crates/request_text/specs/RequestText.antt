@@ -31,7 +31,7 @@ used_text used = ascii " used " ++ decimal_text used
 abbrev pub reading_text : Reading → List ℕ
 reading_text (Ended outcome used) = outcome_text outcome ++ used_text used
 reading_text (NotYet used) = ascii "not-yet" ++ used_text used
-reading_text (Refused ground) = refused_text ground
+reading_text (Refused why) = refused_text why
 
 -- "`value V packets N`, `complete packets N`, ..; N decimal"
 abbrev pub exchange_text : Outcome → ℕ → List ℕ

@@ -41,14 +41,14 @@ use Rattle.text_laws.specs.ToldBackLaws.{OutcomeHeld}
 -- an answer whose numbers fit their digits
 abbrev pub ExchangeHeld : Exchanged → Type 0
 ExchangeHeld (Ended outcome packets) = OutcomeHeld outcome × (packets < 10 ^ 20)
-ExchangeHeld (RefusedToExchange ground) = Unit
+ExchangeHeld (RefusedToExchange why) = Unit
 
 -- a reader holds no more than one result word, and then the value of two
 abbrev ReaderHeld : Reader → Type 0
 ReaderHeld First = Unit
 ReaderHeld (Second upper) = upper ≤ 0xFFFF
 ReaderHeld (Closed outcome) = OutcomeHeld outcome
-ReaderHeld (Bad ground) = Unit
+ReaderHeld (Bad why) = Unit
 
 result_held : (size : Size) (reply : ℕ) → reply ≤ 0xFFFF → ReaderHeld (result_word size reply)
 result_held Byte reply h = by_test (leb reply 0xFF)
@@ -102,7 +102,7 @@ reply_held kind (Second upper) reply h = by_test (leb reply 0x1FFFF)
     by_test true = second_held upper reply h
     by_test false = tt
 reply_held kind (Closed outcome) reply h = h
-reply_held kind (Bad ground) reply h = tt
+reply_held kind (Bad why) reply h = tt
 
 replies_held : (kind : ResultKind) (reader : Reader) (replies : List ℕ) → ReaderHeld reader → ReaderHeld (after_replies kind reader replies)
 replies_held kind reader [] h = h
@@ -142,4 +142,4 @@ exchange_held request s typed = by_verdict (exchange_verdict request s) refl
         let nops = rest_nops_bound rest_budget r.1 in
         let w : s.board.w ≤ 15 = r.1.board.small in
         (there_held request (rest_scene s) r.0 (sound_is_sized rested), omega arith)
-    by_verdict (Refused ground) e = tt
+    by_verdict (Refused why) e = tt

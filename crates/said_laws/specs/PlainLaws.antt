@@ -142,13 +142,13 @@ pub record Spoken (text : List ℕ) : Type 0 where
   pub some : 0 < length text
   pub plain : Plain text
 
-refused_spoken : (ground : Ground) (cycle : ℕ) → Spoken (refused_at ground cycle)
-refused_spoken ground cycle =
-    record { some = omega arith; plain = letters "refused " refl and decimal (number ground) and letters " at " refl and decimal cycle }
+refused_spoken : (why : Ground) (cycle : ℕ) → Spoken (refused_at why cycle)
+refused_spoken why cycle =
+    record { some = omega arith; plain = letters "refused " refl and decimal (number why) and letters " at " refl and decimal cycle }
 
 packet_spoken : (o : Outcome) → Spoken (packet_text o)
 packet_spoken (Reply reply) = record { some = omega arith; plain = letters "reply " refl and hex 5 reply }
-packet_spoken (Refusing ground) = refused_spoken ground 0
+packet_spoken (Refusing why) = refused_spoken why 0
 
 halted_plain : (halted interrupt : Bool) → Plain (halted_text halted interrupt)
 halted_plain halted interrupt = letters " halted " refl and flag_plain halted and letters " interrupt " refl and flag_plain interrupt
@@ -163,7 +163,7 @@ halting_plain Halts = record { bytes = refl }
 halting_plain Ignored = record { bytes = refl }
 
 event_spoken : (o : EventOutcome) → Spoken (event_text o)
-event_spoken (event.Refused ground) = refused_spoken ground 0
+event_spoken (event.Refused why) = refused_spoken why 0
 event_spoken (event.Taken seen) =
     record {
       some = omega arith;
@@ -172,7 +172,7 @@ event_spoken (event.Taken seen) =
     }
 
 breakpoint_spoken : (o : BreakpointOutcome) → Spoken (breakpoint_text o)
-breakpoint_spoken (breakpoint.Refused ground) = refused_spoken ground 0
+breakpoint_spoken (breakpoint.Refused why) = refused_spoken why 0
 breakpoint_spoken (breakpoint.Taken pressed) =
     record { some = omega arith; plain = letters "breakpoint" refl and halted_plain pressed.halted pressed.interrupt }
 
@@ -230,7 +230,7 @@ state_spoken b p =
 -- the other lines of the board's
 made_spoken : (v : Verdict) → Spoken (made_text v)
 made_spoken Accepted = record { some = omega arith; plain = letters "made" refl }
-made_spoken (Refused ground) = refused_spoken ground 0
+made_spoken (Refused why) = refused_spoken why 0
 
 pub unclear_spoken : Spoken unclear_text
 unclear_spoken = record { some = omega arith; plain = letters "unclear" refl }
@@ -270,7 +270,7 @@ with_rest {t} {u} s p = record { some = simp length-append (omega (arith, s.some
 
 pub exchange_spoken : (x : Exchanged) → Spoken (exchanged_text x)
 exchange_spoken (Ended outcome packets) = with_rest (with_rest (outcome_spoken outcome) (letters " packets " refl)) (decimal packets)
-exchange_spoken (RefusedToExchange ground) = refused_spoken ground 0
+exchange_spoken (RefusedToExchange why) = refused_spoken why 0
 
 -- the pod's half
 used_plain : (used : ℕ) → Plain (used_text used)
@@ -279,7 +279,7 @@ used_plain used = letters " used " refl and decimal used
 reading_spoken : (r : Reading) → Spoken (reading_text r)
 reading_spoken (EndedThere outcome used) = with_rest (outcome_spoken outcome) (used_plain used)
 reading_spoken (NotYet used) = record { some = omega arith; plain = letters "not-yet" refl and used_plain used }
-reading_spoken (RefusedToRead ground) = refused_spoken ground 0
+reading_spoken (RefusedToRead why) = refused_spoken why 0
 
 each_plain : (words : List ℕ) → Plain (each_word words)
 each_plain [] = record { bytes = refl }
@@ -287,7 +287,7 @@ each_plain (word ∷ words) = letters " " refl and hex 5 word and each_plain wor
 
 built_spoken : (v : Verdict) (words : List ℕ) → Spoken (built_by v words)
 built_spoken Accepted words = record { some = omega arith; plain = letters "words" refl and each_plain words }
-built_spoken (Refused ground) words = refused_spoken ground 0
+built_spoken (Refused why) words = refused_spoken why 0
 
 read_spoken : (request : Request) (t : Taken) (replies : List ℕ) → Spoken (read_text request t replies)
 read_spoken request (Count n) replies = reading_spoken (reading request replies)

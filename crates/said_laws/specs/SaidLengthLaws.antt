@@ -67,7 +67,7 @@ refused_length g cycle = simp length-append (omega (arith, decimal_length (numbe
 
 packet_length : (o : Outcome) → length (packet_text o) ≤ 64
 packet_length (Reply reply) = simp length-append (omega (arith, digits_length 16 5 reply))
-packet_length (Refusing ground) = refused_length ground 0
+packet_length (Refusing why) = refused_length why 0
 
 flag_length : (flag : Bool) → length (flag_text flag) ≡ 1
 flag_length true = refl
@@ -83,14 +83,14 @@ halting_length Halts = omega arith
 halting_length Ignored = omega arith
 
 event_length : (o : EventOutcome) → length (event_text o) ≤ 64
-event_length (event.Refused ground) = refused_length ground 0
+event_length (event.Refused why) = refused_length why 0
 event_length (event.Taken seen) =
     let level = digits_length 16 1 seen.level in
     let end = captured_length seen.captured in
     simp length-append (omega (arith, level, flag_length seen.halted, flag_length seen.interrupt, end, halting_length seen.halting))
 
 breakpoint_length : (o : BreakpointOutcome) → length (breakpoint_text o) ≤ 64
-breakpoint_length (breakpoint.Refused ground) = refused_length ground 0
+breakpoint_length (breakpoint.Refused why) = refused_length why 0
 breakpoint_length (breakpoint.Taken pressed) = simp length-append (omega (arith, flag_length pressed.halted, flag_length pressed.interrupt))
 
 bytes_length : (m : List ℕ) (from count : ℕ) → length (bytes_text m from count) ≡ 2 * count
@@ -126,7 +126,7 @@ state_length b p =
 
 made_length : (v : Verdict) → length (made_text v) ≤ 64
 made_length Accepted = omega arith
-made_length (Refused ground) = refused_length ground 0
+made_length (Refused why) = refused_length why 0
 
 bytes_put_length : (fitting : Bool) (n : ℕ) → length (bytes_put_text fitting n) ≤ 64
 bytes_put_length true n = simp length-append (omega (arith, number_length n))
@@ -161,7 +161,7 @@ outcome_length Illegal = omega arith
 
 pub exchanged_length : (x : Exchanged) → length (exchanged_text x) ≤ 4095
 exchanged_length (Ended outcome packets) = simp length-append (omega (arith, outcome_length outcome, decimal_length packets))
-exchanged_length (RefusedToExchange ground) = omega (arith, refused_length ground 0)
+exchanged_length (RefusedToExchange why) = omega (arith, refused_length why 0)
 
 -- of the pod's half: no request has more than five words
 each_length : (words : List ℕ) → length (each_word words) ≡ 6 * length words
@@ -170,12 +170,12 @@ each_length (word ∷ words) = simp length-append (omega (arith, digits_length 1
 
 built_length : (v : Verdict) (words : List ℕ) → length words ≤ 5 → length (built_by v words) ≤ 4095
 built_length Accepted words few = simp length-append (omega (arith, each_length words))
-built_length (Refused ground) words few = omega (arith, refused_length ground 0)
+built_length (Refused why) words few = omega (arith, refused_length why 0)
 
 reading_length : (r : Reading) → length (reading_text r) ≤ 4095
 reading_length (EndedThere outcome used) = simp length-append (omega (arith, outcome_length outcome, decimal_length used))
 reading_length (NotYet used) = simp length-append (omega (arith, decimal_length used))
-reading_length (RefusedToRead ground) = omega (arith, refused_length ground 0)
+reading_length (RefusedToRead why) = omega (arith, refused_length why 0)
 
 read_length : (request : Request) (t : Taken) (replies : List ℕ) → length (read_text request t replies) ≤ 4095
 read_length request (Count n) replies = reading_length (reading request replies)

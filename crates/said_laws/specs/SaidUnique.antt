@@ -73,7 +73,7 @@ packet_held s word = by_verdict (packet_verdict s word) refl
         let others = check (leb (length s.memory) 65536) MemoryTooLong ∷ check (leb word 0x1FFFF) WordTooLarge ∷ [] in
         let held = (accepted_holds (in_range s.board s.place) StateOutOfRange others e).0 in
         reply_within s.place.phase s.place.next (next_within s.board s.place held)
-    by_verdict (Refused ground) e = tt
+    by_verdict (Refused why) e = tt
 
 module _ (line : List ℕ) (word : ℕ) (bench : Bench) (m : List ℕ) {r : Answer} {after : List ℕ} where
   -- what is said is the text of what the port answered
@@ -119,7 +119,7 @@ exchanged_back (Ended BusError packets) held =
     let back = exchange_back BusError packets held.0 held.1 in same_ended _ _ _ _ back.0 back.1
 exchanged_back (Ended Illegal packets) held =
     let back = exchange_back Illegal packets held.0 held.1 in same_ended _ _ _ _ back.0 back.1
-exchanged_back (RefusedToExchange ground) held = ap RefusedToExchange (refusal_back ground 0)
+exchanged_back (RefusedToExchange why) held = ap RefusedToExchange (refusal_back why 0)
 
 pub exchanged_unique : (x y : Exchanged) → ExchangeHeld x → ExchangeHeld y → exchanged_text x ≡ exchanged_text y → x ≡ y
 exchanged_unique x y h k e = sym (exchanged_back x h) ∙ ap exchanged_of e ∙ exchanged_back y k

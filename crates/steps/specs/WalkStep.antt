@@ -43,7 +43,7 @@ step_read trace cursor = step_from trace cursor.start (length trace - cursor.cyc
 
 -- a refused start is handed out at every step, and the walk stays
 abbrev pub step_by : List ℕ → Cursor → Listing → Step
-step_by trace cursor (Refused ground cycle) = record { cursor = cursor; handed = asRefused ground cycle }
+step_by trace cursor (Refused why cycle) = record { cursor = cursor; handed = asRefused why cycle }
 step_by trace cursor (Items n) = step_read trace cursor
 
 -- one step of the walk
@@ -59,4 +59,4 @@ pub data ToldStep : Type 0 where
 abbrev pub told_handed : Handed → ToldStep
 told_handed (oneItem x) = item x.cycle x.code x.value
 told_handed atEnd = end
-told_handed (asRefused ground cycle) = refusal (number ground) cycle
+told_handed (asRefused why cycle) = refusal (number why) cycle

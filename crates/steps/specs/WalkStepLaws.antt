@@ -41,10 +41,10 @@ module _ (trace : List ℕ) (start : Listing) (i : ℕ) (c : Carried) (past : Bo
       none_left = omega arith
 
 -- a step goes by how the start was judged
-pub step_refused : (trace : List ℕ) (cursor : Cursor) (ground : Ground) (cycle : ℕ) → cursor.start ≡ Refused ground cycle
-    → step_of trace cursor ≡ record { cursor = cursor; handed = asRefused ground cycle }
+pub step_refused : (trace : List ℕ) (cursor : Cursor) (why : Ground) (cycle : ℕ) → cursor.start ≡ Refused why cycle
+    → step_of trace cursor ≡ record { cursor = cursor; handed = asRefused why cycle }
 unfolding step_of
-step_refused trace cursor ground cycle e = ap (step_by trace cursor) e
+step_refused trace cursor why cycle e = ap (step_by trace cursor) e
 
 pub step_read_lem : (trace : List ℕ) (cursor : Cursor) (n : ℕ) → cursor.start ≡ Items n
     → step_of trace cursor ≡ step_read trace cursor
@@ -77,8 +77,8 @@ pub handed_within : (trace : List ℕ) (cursor : Cursor) (x : Item) → (step_of
 handed_within trace cursor x e = by_start cursor.start refl
   where
     by_start : (l : Listing) → cursor.start ≡ l → x.cycle < length trace
-    by_start (Refused ground cycle) f =
-        let h = step_refused trace cursor ground cycle f in
+    by_start (Refused why cycle) f =
+        let h = step_refused trace cursor why cycle f in
         let z : ◌≡◌ {A = ℕ} 0 1 = cc in
         absurd (omega arith)
     by_start (Items n) f =

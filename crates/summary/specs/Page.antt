@@ -26,9 +26,9 @@ page_of trace n =
 
 -- nothing is said of a trace that is refused
 abbrev pub blank : Ground → ℕ → Page
-blank ground cycle =
+blank why cycle =
     record {
-      judged = Refused ground cycle;
+      judged = Refused why cycle;
       cycles = 0;
       starts = 0;
       rate = NothingStarted;
@@ -40,7 +40,7 @@ blank ground cycle =
 -- the page, by how its trace was judged
 abbrev pub page_by : List ℕ → Listing → Page
 page_by trace (Items n) = page_of trace n
-page_by trace (Refused ground cycle) = blank ground cycle
+page_by trace (Refused why cycle) = blank why cycle
 
 -- "Refusals: the reader's own, then 11 for the index buffer.", a word an entry; else the items are counted
 unfoldable pub page_verdict : List ℕ → ℕ → Told

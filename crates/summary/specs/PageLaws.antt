@@ -34,10 +34,10 @@ module _ (trace before : List ℕ) (r : Page) where
   meets e p w = record { answer = e; page = p; words = w ∙ ap (index_after trace before) e }
 
   -- a trace that the reader refuses
-  pub page_refused : (ground : Ground) (cycle : ℕ) → reading trace ≡ refusal (number ground) cycle → r ≡ blank ground cycle → PageMeets trace before r before
+  pub page_refused : (why : Ground) (cycle : ℕ) → reading trace ≡ refusal (number why) cycle → r ≡ blank why cycle → PageMeets trace before r before
   unfolding page_verdict reading
-  page_refused ground cycle e p =
-      meets (rw p (sym (refused_so trace 0 nothing (length (items trace)) (number ground) cycle e _))) (rw p refl) (rw p refl)
+  page_refused why cycle e p =
+      meets (rw p (sym (refused_so trace 0 nothing (length (items trace)) (number why) cycle e _))) (rw p refl) (rw p refl)
 
   module _ (n : ℕ) (e : reading trace ≡ counted n) where
     only_room : page_verdict trace (length before) ≡ too_short (entry_count (length trace)) (length before) (counted (length (items trace)))

@@ -28,4 +28,4 @@ NotesValue i carried counts firsts lasts counts' firsts' lasts' = (trace : List 
 -- what a trace that can be read leaves: the tally of its items, and its index from the front of the entries on
 abbrev pub ReadTallied : List ℕ → List ℕ → Listing → List ℕ → List ℕ → List ℕ → List ℕ → Type 0
 ReadTallied trace before (Items n) counts firsts lasts entries = Tallied (items trace) counts firsts lasts × (entries ≡ sets before 0 (index_words trace))
-ReadTallied trace before (Refused ground cycle) counts firsts lasts entries = Unit
+ReadTallied trace before (Refused why cycle) counts firsts lasts entries = Unit

@@ -21,11 +21,11 @@ pub struct Page {
     pub lasts: [u32; 16],
 }
 
-fn refuse(ground: Ground, cycle: usize) -> Page
-    ensures { result ≡ blank ground cycle }
+fn refuse(why: Ground, cycle: usize) -> Page
+    ensures { result ≡ blank why cycle }
 {
     Page {
-        judged: Listing::Refused { ground, cycle },
+        judged: Listing::Refused { ground: why, cycle },
         cycles: 0,
         starts: 0,
         rate: Rate::NothingStarted,

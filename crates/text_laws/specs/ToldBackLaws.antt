@@ -92,11 +92,11 @@ packet_of text = cond (eqb (get_or text 2 0) 112) (Reply (value (drop 6 text))) 
 -- five digits hold it
 abbrev pub PacketHeld : PacketOutcome → Type 0
 PacketHeld (Reply reply) = reply < 16 ^ 5
-PacketHeld (Refusing ground) = Unit
+PacketHeld (Refusing why) = Unit
 
 pub packet_back : (o : PacketOutcome) → PacketHeld o → packet_of (packet_text o) ≡ o
 packet_back (Reply reply) held = ap Reply (hex_back 5 reply held)
-packet_back (Refusing ground) held = ap Refusing (refusal_back ground 0)
+packet_back (Refusing why) held = ap Refusing (refusal_back why 0)
 
 -- what a request came to, by its first letter: `value`, `complete`, `bus-error`, `illegal`
 abbrev pub outcome_of : List ℕ → Outcome
@@ -128,7 +128,7 @@ reading_of text =
 abbrev pub ReadingHeld : Reading → Type 0
 ReadingHeld (Ended outcome used) = OutcomeHeld outcome × (used < 10 ^ 20)
 ReadingHeld (NotYet used) = used < 10 ^ 20
-ReadingHeld (Refused ground) = Unit
+ReadingHeld (Refused why) = Unit
 
 pub reading_back : (r : Reading) → ReadingHeld r → reading_of (reading_text r) ≡ r
 unfolding digits_text
@@ -137,7 +137,7 @@ reading_back (Ended Complete used) held = rw (decimal_back used held.1)
 reading_back (Ended BusError used) held = rw (decimal_back used held.1)
 reading_back (Ended Illegal used) held = rw (decimal_back used held.1)
 reading_back (NotYet used) held = rw (decimal_back used held)
-reading_back (Refused ground) held = ap Refused (refusal_back ground 0)
+reading_back (Refused why) held = ap Refused (refusal_back why 0)
 
 -- what an exchange came to, and its packets
 pub exchange_back : (o : Outcome) (packets : ℕ) → OutcomeHeld o → packets < 10 ^ 20
@@ -222,11 +222,11 @@ abbrev pub event_of : List ℕ → EventOutcome
 event_of text = cond (eqb (get_or text 0 0) 114) (event.Refused (refusal_of text)) (event.Taken (seen_of text))
 
 abbrev pub EventHeld : EventOutcome → Type 0
-EventHeld (event.Refused ground) = Unit
+EventHeld (event.Refused why) = Unit
 EventHeld (event.Taken seen) = SeenHeld seen
 
 pub event_back : (o : EventOutcome) → EventHeld o → event_of (event_text o) ≡ o
-event_back (event.Refused ground) held = ap event.Refused (refusal_back ground 0)
+event_back (event.Refused why) held = ap event.Refused (refusal_back why 0)
 event_back (event.Taken seen) held = ap event.Taken (seen_back seen held)
 
 -- the breakpoint input's answer
@@ -243,5 +243,5 @@ pressed_by_flags false true = refl
 pressed_by_flags false false = refl
 
 pub breakpoint_back : (o : BreakpointOutcome) → breakpoint_of (breakpoint_text o) ≡ o
-breakpoint_back (breakpoint.Refused ground) = ap breakpoint.Refused (refusal_back ground 0)
+breakpoint_back (breakpoint.Refused why) = ap breakpoint.Refused (refusal_back why 0)
 breakpoint_back (breakpoint.Taken pressed) = pressed_by_flags pressed.halted pressed.interrupt

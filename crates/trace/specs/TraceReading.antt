@@ -16,7 +16,7 @@ pub data Told : Type 0 where
 -- 01's number and values for each case of the answer
 abbrev pub told_listing : Listing → Told
 told_listing (Items n) = counted n
-told_listing (Refused ground cycle) = refusal (number ground) cycle
+told_listing (Refused why cycle) = refusal (number why) cycle
 
 -- 7: "a trace longer than 65,536 cycles"
 unfoldable pub too_long : List ℕ → Told → Told

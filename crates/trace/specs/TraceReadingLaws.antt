@@ -18,14 +18,14 @@ module _ (trace : List ℕ) (i : ℕ) (c : Carried) (otherwise : Carried → Tol
     earliest_reserved r = rw (one_left (length trace) i h, r)
 
     module _ (r : reserved (pst trace i) ≡ false) where
-      pub earliest-too-soon : too_soon c.due (pst trace i) ≡ true → earliest trace i c (length trace - i) otherwise ≡ refusal (number MarkerTooSoon) i
+      pub earliest_too_soon : too_soon c.due (pst trace i) ≡ true → earliest trace i c (length trace - i) otherwise ≡ refusal (number MarkerTooSoon) i
       unfolding earliest
-      earliest-too-soon s = rw (one_left (length trace) i h, r, s)
+      earliest_too_soon s = rw (one_left (length trace) i h, r, s)
 
-      pub earliest-passes : too_soon c.due (pst trace i) ≡ false
+      pub earliest_passes : too_soon c.due (pst trace i) ≡ false
           → earliest trace i c (length trace - i) otherwise ≡ earliest trace (i + 1) (after c (pst trace i)) (length trace - (i + 1)) otherwise
       unfolding earliest
-      earliest-passes s = rw (one_left (length trace) i h, r, s)
+      earliest_passes s = rw (one_left (length trace) i h, r, s)
 
 -- no cycle left
 pub earliest_ends : (trace : List ℕ) (i : ℕ) (c : Carried) (t : Told) → length trace ≤ i

@@ -55,7 +55,7 @@ module _ (trace : List ℕ) (cursor : Cursor) (good : GoodStart cursor.start) wh
           → Unrolls trace (rest trace cursor) (step_of trace cursor).cursor (step_of trace cursor).handed
           × ((step_of trace cursor).cursor.start ≡ cursor.start)
       by_start (Items n) e g = step_unrolls trace cursor n e
-      by_start (Refused ground cycle) e g = absurd g
+      by_start (Refused why cycle) e g = absurd g
 
   pub stays_good : GoodStart (step_of trace cursor).cursor.start
   stays_good = rw unrolls.1 good
@@ -70,9 +70,9 @@ module _ (trace before : List ℕ) (start : Listing) (judged : told_listing star
       → laid before (parts_by (length before) (length trace) (items trace) told) ≡ laid before (whole_parts (length before) trace)
   by_judged told e = ap (λ (t : Told). laid before (parts_by (length before) (length trace) (items trace) t)) (sym e ∙ judged)
 
-  pub whole_refused : {after : List ℕ} (ground : Ground) (cycle : ℕ) → start ≡ Refused ground cycle
-      → after ≡ written before 0 (refused_line (number ground) cycle) → after ≡ laid before (whole_parts (length before) trace)
-  whole_refused ground cycle e f = f ∙ by_judged (refusal (number ground) cycle) (ap told_listing e)
+  pub whole_refused : {after : List ℕ} (why : Ground) (cycle : ℕ) → start ≡ Refused why cycle
+      → after ≡ written before 0 (refused_line (number why) cycle) → after ≡ laid before (whole_parts (length before) trace)
+  whole_refused why cycle e f = f ∙ by_judged (refusal (number why) cycle) (ap told_listing e)
 
   pub whole_listed : {middle after : List ℕ} (n : ℕ) → start ≡ Items n → middle ≡ written before 0 (head_line (length trace) n)
       → after ≡ laid middle (parts (length middle) (item_lines (words (items trace)))) → after ≡ laid before (whole_parts (length before) trace)
@@ -84,9 +84,9 @@ module _ (before left : List ℕ) (cycles : ℕ) (listed : Listing) where
       → laid before (listed_parts_by (length before) cycles left told) ≡ laid before (listed_parts (length before) cycles left listed)
   by_listed told e = ap (λ (t : Told). laid before (listed_parts_by (length before) cycles left t)) (sym e)
 
-  pub listed_refused : {after : List ℕ} (ground : Ground) (cycle : ℕ) → listed ≡ Refused ground cycle
-      → after ≡ written before 0 (refused_line (number ground) cycle) → after ≡ laid before (listed_parts (length before) cycles left listed)
-  listed_refused ground cycle e f = f ∙ by_listed (refusal (number ground) cycle) (ap told_listing e)
+  pub listed_refused : {after : List ℕ} (why : Ground) (cycle : ℕ) → listed ≡ Refused why cycle
+      → after ≡ written before 0 (refused_line (number why) cycle) → after ≡ laid before (listed_parts (length before) cycles left listed)
+  listed_refused why cycle e f = f ∙ by_listed (refusal (number why) cycle) (ap told_listing e)
 
   pub listed_all : {middle after : List ℕ} (n : ℕ) → listed ≡ Items n → middle ≡ written before 0 (head_line cycles n) → n ≤ length left / 2
       → after ≡ laid middle (parts (length middle) (item_lines (take (2 * n) left))) → after ≡ laid before (listed_parts (length before) cycles left listed)

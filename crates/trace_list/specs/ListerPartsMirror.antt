@@ -19,7 +19,7 @@ use Rattle.trace_list.specs.ListerLines.{item_lines, refused_line, head_line, un
 -- a start that was not refused
 abbrev pub GoodStart : Listing → Type 0
 GoodStart (Items n) = Unit
-GoodStart (Refused ground cycle) = ⊥
+GoodStart (Refused why cycle) = ⊥
 
 -- a trace's, of some of its items
 abbrev pub parts_by : ℕ → ℕ → List Item → Told → List (List ℕ)

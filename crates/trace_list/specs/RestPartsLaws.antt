@@ -99,9 +99,9 @@ module _ (before trace : List ℕ) (from space : ℕ) {page : Page} {index : Lis
       ap (λ (t : Told). laid before (rest_parts_by (length before) trace from (index_after trace no_index (page_verdict trace (length no_index))) space t))
       (sym e ∙ met.answer)
 
-  pub rest_refused : {after : List ℕ} (ground : Ground) (cycle : ℕ) → page.judged ≡ Refused ground cycle
-      → after ≡ written before 0 (refused_line (number ground) cycle) → after ≡ laid before (rest_parts (length before) trace from space)
-  rest_refused ground cycle e f = f ∙ by_page (refusal (number ground) cycle) (ap told_listing e)
+  pub rest_refused : {after : List ℕ} (why : Ground) (cycle : ℕ) → page.judged ≡ Refused why cycle
+      → after ≡ written before 0 (refused_line (number why) cycle) → after ≡ laid before (rest_parts (length before) trace from space)
+  rest_refused why cycle e f = f ∙ by_page (refusal (number why) cycle) (ap told_listing e)
 
   pub rest_listed : {after : List ℕ} (n : ℕ) → page.judged ≡ Items n → after ≡ laid before (from_parts (length before) trace from index space)
       → after ≡ laid before (rest_parts (length before) trace from space)

@@ -60,7 +60,7 @@ fn write_items(words: &[u32], text: &mut [u8])
 
 // The lines of the items that a walk hands out, one a step, until it hands out none.
 fn write_walk(trace: &[u8], start: Cursor, text: &mut [u8])
-    requires trace_len_bound { length trace.now ≤ 65537 }
+    requires trace_fits { length trace.now ≤ 65537 }
     requires start_meets { StartMeets trace.now start × GoodStart start.start }
     ensures { text.new
         ≡ laid text.old (parts (length text.old) (item_lines (words (items trace.now)))) }
@@ -79,10 +79,10 @@ fn write_walk(trace: &[u8], start: Cursor, text: &mut [u8])
     console::write(text, at);
 }
 
-fn say_refusal(ground: Ground, cycle: usize, text: &mut [u8])
-    ensures { text.new ≡ written text.old 0 (refused_line (number ground) cycle) }
+fn say_refusal(why: Ground, cycle: usize, text: &mut [u8])
+    ensures { text.new ≡ written text.old 0 (refused_line (number why) cycle) }
 {
-    let end = put_refusal_at(text, ground, cycle);
+    let end = put_refusal_at(text, why, cycle);
     console::say(text, end);
 }
 

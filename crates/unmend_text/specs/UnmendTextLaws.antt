@@ -34,8 +34,8 @@ module _ (room : ℕ) (input : List ℕ) (short : length input ≤ 700000) where
     other_length f = judged ∙ rw (e, ne_eqb _ _ f)
 
     module _ (f : length input - (list_in room input).from ≡ (list_in room input).cycles) where
-      pub not-its : is_its_list (drop (list_in room input).from input) (list_in room input).words ≡ false → unmended room input ≡ NotItsList
-      not-its g = judged ∙ rw (e, eq-eqb _ _ f, g)
+      pub not_its : is_its_list (drop (list_in room input).from input) (list_in room input).words ≡ false → unmended room input ≡ NotItsList
+      not_its g = judged ∙ rw (e, eq-eqb _ _ f, g)
 
       pub its : is_its_list (drop (list_in room input).from input) (list_in room input).words ≡ true
           → unmended room input ≡ Recorded (list_in room input).from (list_in room input).changed

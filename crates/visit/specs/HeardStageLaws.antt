@@ -57,7 +57,7 @@ module _ (v : Visit) where
   read_anew sent (Second upper) =
       either Anew (ltb sent patience) (Asking (suc sent) (Second upper)) (Asking sent (Second upper)) (λ e. refl) (λ e. refl)
   read_anew sent (Closed o) = closed_anew o
-  read_anew sent (Bad ground) = tt
+  read_anew sent (Bad why) = tt
 
   pub asked_anew : (sent : ℕ) (reader : Reader) (reply : ℕ) → v.stage ≡ Asking sent reader → Anew (heard v reply).stage
   asked_anew sent reader reply e =

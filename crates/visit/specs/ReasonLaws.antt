@@ -7,7 +7,7 @@ use Rattle.laws.specs.TestLaws.{by_test, either}
 use Rattle.memory.specs.declared.Size.TheVariants.{Byte, Word, Long}
 use Rattle.command.specs.Reply.{complete, not_ready, bus_error, illegal}
 use Rattle.grounds.specs.declared.Ground.{Ground}
-use Rattle.grounds.specs.declared.Ground.TheVariants as ground
+use Rattle.grounds.specs.declared.Ground.TheVariants as why
 use Rattle.grounds.specs.Grounds.{number}
 use Rattle.requests.specs.declared.ResultKind.{ResultKind}
 use Rattle.requests.specs.declared.ResultKind.TheVariants.{NoResult, OfSize}
@@ -31,11 +31,11 @@ use Rattle.visit.specs.HeardStageLaws.{too_large, heard_asking, Anew, asked_anew
 module _ (g : Ground) where
   -- of one within 17 bits it is 14
   abbrev Is14 : Reader → Type 0
-  Is14 reader = reader ≡ Bad g → g ≡ ground.ImpossibleReply
+  Is14 reader = reader ≡ Bad g → g ≡ why.ImpossibleReply
 
   data_14 : (kind : ResultKind) (reply : ℕ) → Is14 (data_reply kind reply)
-  data_14 NoResult reply = either Is14 (eqb reply complete) (Closed outcome.Complete) (Bad ground.ImpossibleReply) (λ t e. cc) (λ t e. cc)
-  data_14 (OfSize Byte) reply = either Is14 (leb reply 0xFF) (Closed (outcome.Value reply)) (Bad ground.ImpossibleReply) (λ t e. cc) (λ t e. cc)
+  data_14 NoResult reply = either Is14 (eqb reply complete) (Closed outcome.Complete) (Bad why.ImpossibleReply) (λ t e. cc) (λ t e. cc)
+  data_14 (OfSize Byte) reply = either Is14 (leb reply 0xFF) (Closed (outcome.Value reply)) (Bad why.ImpossibleReply) (λ t e. cc) (λ t e. cc)
   data_14 (OfSize Word) reply = λ e. cc
   data_14 (OfSize Long) reply = λ e. cc
 
@@ -43,19 +43,19 @@ module _ (g : Ground) where
   status_14 reply =
       either Is14 (eqb reply not_ready) First _ (λ t e. cc)
       (λ t. either Is14 (eqb reply bus_error) (Closed outcome.BusError) _ (λ t e. cc)
-      (λ t. either Is14 (eqb reply illegal) (Closed outcome.Illegal) (Bad ground.ImpossibleReply) (λ t e. cc) (λ t e. cc)))
+      (λ t. either Is14 (eqb reply illegal) (Closed outcome.Illegal) (Bad why.ImpossibleReply) (λ t e. cc) (λ t e. cc)))
 
   within_14 : (kind : ResultKind) (reader : Reader) (reply : ℕ) → done reader ≡ false → leb reply 0x1FFFF ≡ true → Is14 (after_reply kind reader reply)
   within_14 kind First reply waits small =
       rw small (either Is14 (leb reply 0xFFFF) (data_reply kind reply) (status_reply reply) (λ t. data_14 kind reply) (λ t. status_14 reply))
   within_14 kind (Second upper) reply waits small =
-      rw small (either Is14 (leb reply 0xFFFF) (Closed (outcome.Value (upper * 65536 + reply))) (Bad ground.ImpossibleReply) (λ t e. cc) (λ t e. cc))
+      rw small (either Is14 (leb reply 0xFFFF) (Closed (outcome.Value (upper * 65536 + reply))) (Bad why.ImpossibleReply) (λ t e. cc) (λ t e. cc))
   within_14 kind (Closed o) reply waits small = λ e. cc
   within_14 kind (Bad h) reply waits small = λ e. cc
 
 -- of one above them 1
 above_is_1 : (kind : ResultKind) (reader : Reader) (reply : ℕ) → done reader ≡ false → leb reply 0x1FFFF ≡ false
-    → after_reply kind reader reply ≡ Bad ground.WordTooLarge
+    → after_reply kind reader reply ≡ Bad why.WordTooLarge
 above_is_1 kind First reply waits large = rw large
 above_is_1 kind (Second upper) reply waits large = rw large
 above_is_1 kind (Closed o) reply waits large = cc
@@ -69,7 +69,7 @@ pub record EndsFor (v : Visit) (g : Ground) : Type 0 where
   pub same : reason_number reason ≡ number g
 
 -- "is above 1FFFF, whatever was asked (ground 1)"
-pub large_reply_ends : (v : Visit) (reply : ℕ) → is_over v.stage ≡ false → 0x1FFFF < reply → EndsFor (heard v reply) ground.WordTooLarge
+pub large_reply_ends : (v : Visit) (reply : ℕ) → is_over v.stage ≡ false → 0x1FFFF < reply → EndsFor (heard v reply) why.WordTooLarge
 unfolding heard
 large_reply_ends v reply going large = record { reason = WordTooLarge; ends = rw (going, lt-leb reply 0x1FFFF large); same = refl }
 
@@ -87,11 +87,11 @@ module _ (v : Visit) (sent reply : ℕ) (reader : Reader) (asks : v.stage ≡ As
       let it = within_14 g kind reader reply waits small bad in
       record { reason = ImpossibleReply; ends = asked_stage ∙ rw (small, bad); same = ap number (sym it) })
       (λ large.
-      let it : ground.WordTooLarge ≡ g = let one = above_is_1 kind reader reply waits large in cc in
+      let it : why.WordTooLarge ≡ g = let one = above_is_1 kind reader reply waits large in cc in
       record { reason = WordTooLarge; ends = asked_stage ∙ rw large; same = ap number it })
 
   -- "in the table 1FFFF too"
-  pub illegal_in_table_ends : in_table v.at ≡ true → reader_after v reader reply ≡ Closed outcome.Illegal → EndsFor (heard v reply) ground.ImpossibleReply
+  pub illegal_in_table_ends : in_table v.at ≡ true → reader_after v reader reply ≡ Closed outcome.Illegal → EndsFor (heard v reply) why.ImpossibleReply
   unfolding closed_by
   illegal_in_table_ends there closed =
       by_test (leb reply 0x1FFFF)

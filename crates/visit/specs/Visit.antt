@@ -2,7 +2,7 @@
 use Rattle.std.specs.Prelude.{ℕ, suc, ◌+◌, ◌*◌, ◌%◌, ◌^◌, Bool, true, false, cond, ◌&&◌, ◌||◌, List, [], ◌∷◌, eqb, leb, ltb, get_or, set}
 use Rattle.command.specs.Reply.{complete, bus_error, illegal}
 use Rattle.grounds.specs.declared.Ground.TheVariants.{RequestOutOfRange, BufferTooShort}
-use Rattle.grounds.specs.declared.Ground.TheVariants as ground
+use Rattle.grounds.specs.declared.Ground.TheVariants as why
 use Rattle.grounds.specs.declared.Verdict.{Verdict}
 use Rattle.grounds.specs.declared.Verdict.TheVariants as verdict
 use Rattle.grounds.specs.Grounds.{number, check, judge}
@@ -42,7 +42,7 @@ begun address longwords = record { address = address; ends = registers_asked + l
 
 abbrev pub started_by : Verdict → Visit → Started
 started_by verdict.Accepted v = Begun v
-started_by (verdict.Refused ground) v = Refused ground
+started_by (verdict.Refused why) v = Refused why
 
 abbrev pub start_of : ℕ → ℕ → ℕ → Started
 start_of address longwords room = started_by (start_verdict address longwords room) (begun address longwords)
@@ -134,7 +134,7 @@ abbrev pub read_by : Visit → ℕ → Reader → Visit
 read_by v sent First = on_stage v (first_stage sent)
 read_by v sent (Second upper) = on_stage v (second_stage sent upper)
 read_by v sent (Closed o) = closed_by v o
-read_by v sent (Bad ground) = on_stage v (NotRead ImpossibleReply)
+read_by v sent (Bad why) = on_stage v (NotRead ImpossibleReply)
 
 abbrev pub reader_after : Visit → Reader → ℕ → Reader
 reader_after v reader reply = after_reply (kind_of (request_now v)) reader reply
@@ -173,8 +173,8 @@ abbrev pub reason_number : Reason → ℕ
 reason_number Late = 0
 reason_number NotReady = 0
 reason_number NoReply = 0
-reason_number WordTooLarge = number ground.WordTooLarge
-reason_number ImpossibleReply = number ground.ImpossibleReply
+reason_number WordTooLarge = number why.WordTooLarge
+reason_number ImpossibleReply = number why.ImpossibleReply
 
 -- ---- what is noted
 -- a value as it is; else the reply that stands for the outcome, above 32 bits
@@ -188,7 +188,7 @@ abbrev pub noted_by : ℕ → Reader → List ℕ → List ℕ
 noted_by j First notes = notes
 noted_by j (Second upper) notes = notes
 noted_by j (Closed o) notes = cond (notable o j) (set notes j (note_of o)) notes
-noted_by j (Bad ground) notes = notes
+noted_by j (Bad why) notes = notes
 
 abbrev pub noted_at : Visit → Stage → ℕ → List ℕ → List ℕ
 noted_at v (Marking i) reply notes = notes

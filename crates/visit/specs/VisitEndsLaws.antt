@@ -11,7 +11,7 @@ use Rattle.readings.specs.declared.Reader.{Reader}
 use Rattle.readings.specs.declared.Reader.TheVariants.{First, Second, Closed, Bad}
 use Rattle.readings.specs.Reader.{second_reply, after_reply}
 use Rattle.grounds.specs.declared.Ground.{Ground}
-use Rattle.grounds.specs.declared.Ground.TheVariants as ground
+use Rattle.grounds.specs.declared.Ground.TheVariants as why
 use Rattle.asked.specs.VisitRequests.{in_table, begins, registers_asked, marked}
 use Rattle.asked.specs.Marker.{last_at, mark_holds}
 use Rattle.visit.specs.declared.Reason.{Reason}
@@ -31,7 +31,7 @@ abbrev reader_left : ℕ → Reader → ℕ
 reader_left sent First = 258 - sent
 reader_left sent (Second upper) = 1
 reader_left sent (Closed o) = 1
-reader_left sent (Bad ground) = 1
+reader_left sent (Bad why) = 1
 
 abbrev stage_left : Stage → ℕ
 stage_left (Marking i) = 282 - i
@@ -56,7 +56,7 @@ reader_left_positive : (sent : ℕ) (reader : Reader) → sent ≤ 256 → 0 < r
 reader_left_positive sent First few = omega arith
 reader_left_positive sent (Second upper) few = omega arith
 reader_left_positive sent (Closed o) few = omega arith
-reader_left_positive sent (Bad ground) few = omega arith
+reader_left_positive sent (Bad why) few = omega arith
 
 left_positive : (v : Visit) (stage : Stage) → Kept v stage → is_over stage ≡ false → 0 < stage_left stage
 left_positive v (Marking i) kept going = omega arith
@@ -132,8 +132,8 @@ module _ (v : Visit) (sent : ℕ) (few : sent ≤ 256) (more : v.at < v.ends) wh
   closes : (reader : Reader) (o : Outcome) → Nearer v (Asking sent reader) (read_by v sent (Closed o))
   closes reader o = closed_nearer v (Asking sent reader) more (asking_positive reader) o
 
-  breaks : (reader : Reader) (ground : Ground) → Nearer v (Asking sent reader) (read_by v sent (Bad ground))
-  breaks reader ground = ended_nearer v (Asking sent reader) more (asking_positive reader) ImpossibleReply
+  breaks : (reader : Reader) (why : Ground) → Nearer v (Asking sent reader) (read_by v sent (Bad why))
+  breaks reader why = ended_nearer v (Asking sent reader) more (asking_positive reader) ImpossibleReply
 
   first_nearer : (next : Reader) → eqb sent 0 ≡ false → Nearer v (Asking sent First) (read_by v sent next)
   first_nearer First asked =
@@ -149,18 +149,18 @@ module _ (v : Visit) (sent : ℕ) (few : sent ≤ 256) (more : v.at < v.ends) wh
       (λ e. let small = ltb-true sent 256 e in ((small, more), omega (arith, next_asking_left sent (Second upper))))
       (λ e. ((few, more), omega (arith, asking_left sent (Second upper) asked))))
   first_nearer (Closed o) asked = closes First o
-  first_nearer (Bad ground) asked = breaks First ground
+  first_nearer (Bad why) asked = breaks First why
 
   read_nearer : (kind : ResultKind) (reader : Reader) (reply : ℕ) → eqb sent 0 ≡ false
       → Nearer v (Asking sent reader) (read_by v sent (after_reply kind reader reply))
   read_nearer kind First reply asked = first_nearer (after_reply kind First reply) asked
   read_nearer kind (Second upper) reply asked =
       let to : Reader → Type 0 = λ next. Nearer v (Asking sent (Second upper)) (read_by v sent next) in
-      either to (leb reply 0x1FFFF) (second_reply upper reply) (Bad ground.WordTooLarge)
-      (λ e. either to (leb reply 0xFFFF) _ (Bad ground.ImpossibleReply) (λ e. closes (Second upper) _) (λ e. breaks (Second upper) ground.ImpossibleReply))
-      (λ e. breaks (Second upper) ground.WordTooLarge)
+      either to (leb reply 0x1FFFF) (second_reply upper reply) (Bad why.WordTooLarge)
+      (λ e. either to (leb reply 0xFFFF) _ (Bad why.ImpossibleReply) (λ e. closes (Second upper) _) (λ e. breaks (Second upper) why.ImpossibleReply))
+      (λ e. breaks (Second upper) why.WordTooLarge)
   read_nearer kind (Closed o) reply asked = closes (Closed o) o
-  read_nearer kind (Bad ground) reply asked = breaks (Bad ground) ground
+  read_nearer kind (Bad why) reply asked = breaks (Bad why) why
 
   command_nearer : (reader : Reader) (reply : ℕ) → eqb sent 0 ≡ true → Nearer v (Asking sent reader) (on_stage v (command_stage reply))
   command_nearer reader reply first =

@@ -43,7 +43,7 @@ pub record BegunWith (address longwords room : ℕ) (v : Visit) : Type 0 where
 
 started_accepted : (judged : Verdict) (v w : Visit) → started_by judged w ≡ Begun v → (judged ≡ verdict.Accepted) × (v ≡ w)
 started_accepted verdict.Accepted v w e = (refl, cc)
-started_accepted (verdict.Refused ground) v w e = (cc, cc)
+started_accepted (verdict.Refused why) v w e = (cc, cc)
 
 pub begun_with : (address longwords room : ℕ) {v : Visit} → start_of address longwords room ≡ Begun v → BegunWith address longwords room v
 begun_with address longwords room {v} e =

@@ -29,7 +29,7 @@ abbrev pub is_closed : Reader → Bool
 is_closed First = false
 is_closed (Second upper) = false
 is_closed (Closed outcome) = true
-is_closed (Bad ground) = false
+is_closed (Bad why) = false
 
 -- with this reply the request that is asked is read to its end
 abbrev pub notes_at : Visit → Stage → ℕ → Bool

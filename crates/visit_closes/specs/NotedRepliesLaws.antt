@@ -40,7 +40,7 @@ closed_is_done : (x : Reader) → is_closed x ≡ true → done x ≡ true
 closed_is_done First h = h
 closed_is_done (Second upper) h = h
 closed_is_done (Closed outcome) h = refl
-closed_is_done (Bad ground) h = refl
+closed_is_done (Bad why) h = refl
 
 -- the request under way ends with it
 record Noted (r : Request) (s : State) (words : List Word) : Type 0 where
@@ -73,7 +73,7 @@ kept_by : (j : ℕ) (x : Reader) (notes : List ℕ) → is_closed x ≡ false �
 kept_by j First notes n = refl
 kept_by j (Second upper) notes n = refl
 kept_by j (Closed outcome) notes n = absurd (true≢false n)
-kept_by j (Bad ground) notes n = refl
+kept_by j (Bad why) notes n = refl
 
 kept_at : (v : Visit) (stage : Stage) (answer : ℕ) (notes : List ℕ) → notes_at v stage answer ≡ false → noted_at v stage answer notes ≡ notes
 kept_at v (Marking i) answer notes n = refl

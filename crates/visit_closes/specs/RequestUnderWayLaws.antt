@@ -204,14 +204,14 @@ module _ (w : ℕ) (r : Request) (sent : ℕ) (reader : Reader) (s : State) wher
       record {
         rests = g.rests;
         whole = g.none ∙ rw legal;
-        left = λ outcome e i. absurd (true≢false (illegal-outcome outcome (sym g.answer ∙ e) ∙ i));
+        left = λ outcome e i. absurd (true≢false (illegal_outcome outcome (sym g.answer ∙ e) ∙ i));
       }
     where
-      outcomeIn : Reader → Outcome
-      outcomeIn First = Illegal
-      outcomeIn (Second upper) = Illegal
-      outcomeIn (Closed outcome) = outcome
-      outcomeIn (Bad ground) = Illegal
+      outcome_in : Reader → Outcome
+      outcome_in First = Illegal
+      outcome_in (Second upper) = Illegal
+      outcome_in (Closed outcome) = outcome
+      outcome_in (Bad why) = Illegal
 
-      illegal-outcome : (outcome : Outcome) → Closed Illegal ≡ Closed outcome → true ≡ is_illegal outcome
-      illegal-outcome outcome e = ap (λ (x : Reader). is_illegal (outcomeIn x)) e
+      illegal_outcome : (outcome : Outcome) → Closed Illegal ≡ Closed outcome → true ≡ is_illegal outcome
+      illegal_outcome outcome e = ap (λ (x : Reader). is_illegal (outcome_in x)) e

@@ -146,7 +146,7 @@ module _ (w : ℕ) (v : Visit) {s : State} (f : Sound s) (words : List Word) (te
     read_stands (Closed o) e =
         closed_stands v o (words_after sends_now) (packet_keeps_sound f sends_now)
         ((goes_ends w (request_now v) (suc sent) reader s u.word u.goes (ap done e)).left o e)
-    read_stands (Bad ground) e = tt
+    read_stands (Bad why) e = tt
 
     asked_stands : StandsNow (visit.heard_at v (Asking (suc sent) reader) (reply_now s.place)) (stepped s sends_now) (words_after sends_now)
     asked_stands = rw (ne_eqb (suc sent) 0 (omega arith)) (read_stands (reader_after v reader (reply_now s.place)) refl)

@@ -88,11 +88,11 @@ pub record SameLine (w : ℕ) (line : List ℕ) (asked : TalkLine) (l : Left) : 
 -- a result is shown by what it is
 abbrev told_as : Result → List ℕ
 told_as (Result.came outcome) = outcome_text outcome
-told_as (Result.refused ground) = refused_text ground
+told_as (Result.refused why) = refused_text why
 
 result_told : (x : Exchanged) → result_text x ≡ told_as (result_of x)
 result_told (Ended outcome packets) = refl
-result_told (Refused ground) = refl
+result_told (Refused why) = refl
 
 module _ (w : ℕ) (small : w ≤ 15) (line : List ℕ) (l : Left) (s : Stands l) where
   asked_same : (request : Request) → SameLine w line (Ask request) l

@@ -29,7 +29,7 @@ few_packets : (request : Request) (l : Left) → Stands l → packets_in (answer
 few_packets request l s = by_verdict (exchange_verdict request (state_on l)) refl
   where
     by_verdict : (v : Verdict) → exchange_verdict request (state_on l) ≡ v → packets_in (answer_in request l) ≤ 41
-    by_verdict (Refused ground) e = rw e (omega arith)
+    by_verdict (Refused why) e = rw e (omega arith)
     by_verdict Accepted e =
         let f = ready_sound s.ready (accepted_is_within request (state_on l) e).memory in
         let rest = rest_keeps_sound rest_budget (state_on l) f in

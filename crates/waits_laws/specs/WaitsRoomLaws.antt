@@ -10,7 +10,7 @@ use Rattle.text.specs.TextLaws.{told_whole}
 use Rattle.text.specs.NumberText.{hex_text, digits_text, width_from, decimal_text}
 use Rattle.text.specs.NumberTextLaws.{digits_length, decimal_length}
 use Rattle.grounds.specs.declared.Ground.{Ground}
-use Rattle.grounds.specs.declared.Ground.TheVariants as ground
+use Rattle.grounds.specs.declared.Ground.TheVariants as why
 use Rattle.state_line.specs.StateText.{state_text}
 use Rattle.refusal_text.specs.RefusalText.{refused_text}
 use Rattle.readings.specs.declared.Outcome.TheVariants.{Value, Complete, BusError, Illegal}
@@ -30,20 +30,20 @@ use Rattle.waits_laws.specs.WaitsSameLaws.{same_line, same_lines, waits_says_sam
 -- ---- the rows
 refused_short : (g : Ground) → length (refused_text g) ≤ 15
 unfolding digits_text width_from
-refused_short ground.WordTooLarge = omega arith
-refused_short ground.WaitTooLarge = omega arith
-refused_short ground.MemoryTooLong = omega arith
-refused_short ground.EventWhileHalted = omega arith
-refused_short ground.OddPc = omega arith
-refused_short ground.ReservedSize = omega arith
-refused_short ground.TraceTooLong = omega arith
-refused_short ground.ReservedPst = omega arith
-refused_short ground.MarkerTooSoon = omega arith
-refused_short ground.TraceCutShort = omega arith
-refused_short ground.BufferTooShort = omega arith
-refused_short ground.StateOutOfRange = omega arith
-refused_short ground.RequestOutOfRange = omega arith
-refused_short ground.ImpossibleReply = omega arith
+refused_short why.WordTooLarge = omega arith
+refused_short why.WaitTooLarge = omega arith
+refused_short why.MemoryTooLong = omega arith
+refused_short why.EventWhileHalted = omega arith
+refused_short why.OddPc = omega arith
+refused_short why.ReservedSize = omega arith
+refused_short why.TraceTooLong = omega arith
+refused_short why.ReservedPst = omega arith
+refused_short why.MarkerTooSoon = omega arith
+refused_short why.TraceCutShort = omega arith
+refused_short why.BufferTooShort = omega arith
+refused_short why.StateOutOfRange = omega arith
+refused_short why.RequestOutOfRange = omega arith
+refused_short why.ImpossibleReply = omega arith
 
 result_short : (answer : Exchanged) → length (result_text answer) ≤ 15
 result_short (Ended (Value value) n) = omega (arith, length-append (ascii "value ") (hex_text 8 value), digits_length 16 8 value)

@@ -73,12 +73,12 @@ answer_in request l = exchange_outcome request l.bench (take l.bench.lent l.memo
 -- "what `talk` answers, without ` packets N`"
 abbrev pub result_text : Exchanged → List ℕ
 result_text (Ended outcome packets) = outcome_text outcome
-result_text (Refused ground) = refused_text ground
+result_text (Refused why) = refused_text why
 
 -- a refusal sends none
 abbrev pub packets_in : Exchanged → ℕ
 packets_in (Ended outcome packets) = packets
-packets_in (Refused ground) = 0
+packets_in (Refused why) = 0
 
 -- "the request's line, byte by byte as it stands in the file without its line end, then `: ` and what `talk` answers"
 abbrev pub row_text : List ℕ → Exchanged → List ℕ

@@ -26,12 +26,12 @@ result_length (Ended (Value value) n) = omega (arith, length-append (ascii "valu
 result_length (Ended Complete n) = omega arith
 result_length (Ended BusError n) = omega arith
 result_length (Ended Illegal n) = omega arith
-result_length (Refused ground) =
+result_length (Refused why) =
     omega (
       arith,
-      length-append (decimal_text (number ground) ++ ascii " at ") (decimal_text 0),
-      length-append (decimal_text (number ground)) (ascii " at "),
-      decimal_length (number ground),
+      length-append (decimal_text (number why) ++ ascii " at ") (decimal_text 0),
+      length-append (decimal_text (number why)) (ascii " at "),
+      decimal_length (number why),
       decimal_length 0,
     )
 

@@ -32,15 +32,15 @@ module _ (trace : Bor (List ℕ)) (n : ℕ) where
   unfolding handed_out
   ends_handed zero cursor e f = refl
   ends_handed (suc m) cursor e f =
-      at-step (step_of trace.now cursor).cursor (step_of trace.now cursor).handed (step_unrolls trace.now cursor n e).0
+      at_step (step_of trace.now cursor).cursor (step_of trace.now cursor).handed (step_unrolls trace.now cursor n e).0
       ((step_unrolls trace.now cursor n e).1 ∙ e) (ends_handed m)
     where
-      at-step : (q : Cursor) (h : Handed) → Unrolls trace.now (rest trace.now cursor) q h → q.start ≡ Items n
+      at_step : (q : Cursor) (h : Handed) → Unrolls trace.now (rest trace.now cursor) q h → q.start ≡ Items n
           → ((q : Cursor) → q.start ≡ Items n → rest trace.now q ≡ [] → handed_out m (walk_at trace q) ≡ replicate m atEnd)
           → h ∷ handed_out m (walk_at trace q) ≡ atEnd ∷ replicate m atEnd
-      at-step q (oneItem x) u g ih = let z : ◌≡◌ {A = ℕ} 0 1 = cc in absurd (omega arith)
-      at-step q atEnd u g ih = ap (λ (l : List Handed). atEnd ∷ l) (ih q g u.1)
-      at-step q (asRefused ground cycle) u g ih = absurd u
+      at_step q (oneItem x) u g ih = let z : ◌≡◌ {A = ℕ} 0 1 = cc in absurd (omega arith)
+      at_step q atEnd u g ih = ap (λ (l : List Handed). atEnd ∷ l) (ih q g u.1)
+      at_step q (asRefused why cycle) u g ih = absurd u
 
   -- from any cursor, the items from it on are handed out, and then the end
   rest_handed : (m : ℕ) (xs : List Item) (cursor : Cursor) → cursor.start ≡ Items n → rest trace.now cursor ≡ xs
@@ -49,29 +49,29 @@ module _ (trace : Bor (List ℕ)) (n : ℕ) where
   rest_handed m [] cursor e f = rw (zero-add m) (ends_handed m cursor e f)
   rest_handed m (x ∷ xs) cursor e f =
       rw (suc-add (length xs) m)
-      (at-step (step_of trace.now cursor).cursor (step_of trace.now cursor).handed (step_unrolls trace.now cursor n e).0
+      (at_step (step_of trace.now cursor).cursor (step_of trace.now cursor).handed (step_unrolls trace.now cursor n e).0
       ((step_unrolls trace.now cursor n e).1 ∙ e) (rest_handed m xs))
     where
-      at-step : (q : Cursor) (h : Handed) → Unrolls trace.now (rest trace.now cursor) q h → q.start ≡ Items n
+      at_step : (q : Cursor) (h : Handed) → Unrolls trace.now (rest trace.now cursor) q h → q.start ≡ Items n
           → ((q : Cursor) → q.start ≡ Items n → rest trace.now q ≡ xs
           → handed_out (length xs + m) (walk_at trace q) ≡ map oneItem xs ++ replicate m atEnd)
           → h ∷ handed_out (length xs + m) (walk_at trace q) ≡ oneItem x ∷ (map oneItem xs ++ replicate m atEnd)
-      at-step q (oneItem y) u g ih =
+      at_step q (oneItem y) u g ih =
           let same : y ≡ x = cc in
           let left : rest trace.now q ≡ xs = cc in
           let on = ih q g left in
           cc
-      at-step q atEnd u g ih = let z : ◌≡◌ {A = ℕ} 0 1 = cc in absurd (omega arith)
-      at-step q (asRefused ground cycle) u g ih = absurd u
+      at_step q atEnd u g ih = let z : ◌≡◌ {A = ℕ} 0 1 = cc in absurd (omega arith)
+      at_step q (asRefused why cycle) u g ih = absurd u
 
 -- from a cursor whose start was refused, every step hands out the refusal
-refused_handed : (trace : Bor (List ℕ)) (cursor : Cursor) (ground : Ground) (cycle m : ℕ) → cursor.start ≡ Refused ground cycle
-    → map told_handed (handed_out m (walk_at trace cursor)) ≡ replicate m (refusal (number ground) cycle)
+refused_handed : (trace : Bor (List ℕ)) (cursor : Cursor) (why : Ground) (cycle m : ℕ) → cursor.start ≡ Refused why cycle
+    → map told_handed (handed_out m (walk_at trace cursor)) ≡ replicate m (refusal (number why) cycle)
 unfolding handed_out
-refused_handed trace cursor ground cycle zero e = refl
-refused_handed trace cursor ground cycle (suc m) e =
-    rw (step_refused trace.now cursor ground cycle e)
-    (ap (λ (l : List ToldStep). refusal (number ground) cycle ∷ l) (refused_handed trace cursor ground cycle m e))
+refused_handed trace cursor why cycle zero e = refl
+refused_handed trace cursor why cycle (suc m) e =
+    rw (step_refused trace.now cursor why cycle e)
+    (ap (λ (l : List ToldStep). refusal (number why) cycle ∷ l) (refused_handed trace cursor why cycle m e))
 
 -- before a start lie all the items of the trace
 start_rest : (trace : List ℕ) (cursor : Cursor) → StartMeets trace cursor → rest trace cursor ≡ items trace
@@ -93,7 +93,7 @@ module _ (trace : Bor (List ℕ)) (walk : Walk) (s : WalkStarts trace walk) wher
       by_start : (l : Listing) → walk.cursor.start ≡ l → told_listing l ≡ asRefusal k i
           → map told_handed (handed_out m (walk_at trace walk.cursor)) ≡ replicate m (refusal k i)
       by_start (Items n) f g = let z : ◌≡◌ {A = ℕ} 0 1 = cc in absurd (omega arith)
-      by_start (Refused ground cycle) f g =
-          let number_is : number ground ≡ k = cc in
+      by_start (Refused why cycle) f g =
+          let number_is : number why ≡ k = cc in
           let cycle-is : cycle ≡ i = cc in
-          refused_handed trace walk.cursor ground cycle m f ∙ cc
+          refused_handed trace walk.cursor why cycle m f ∙ cc

@@ -36,7 +36,7 @@ none_past trace (suc n) i c = refl
 abbrev pub Unrolls : List ℕ → List Item → Cursor → Handed → Type 0
 Unrolls trace xs cursor (oneItem x) = xs ≡ x ∷ rest trace cursor
 Unrolls trace xs cursor atEnd = (xs ≡ []) × (rest trace cursor ≡ [])
-Unrolls trace xs cursor (asRefused ground cycle) = ⊥
+Unrolls trace xs cursor (asRefused why cycle) = ⊥
 
 from_unrolls : (trace : List ℕ) (start : Listing) (n i : ℕ) (c : Carried) (past : Bool) → length trace - i ≡ n
     → Unrolls trace (items_past trace n i c past) (step_from trace start n i c past).cursor (step_from trace start n i c past).handed
@@ -89,11 +89,11 @@ rest_falls trace cursor x e = by_start cursor.start refl
     by_handed : (xs : List Item) (q : Cursor) (h : Handed) → h ≡ oneItem x → Unrolls trace xs q h → length (rest trace q) < length xs
     by_handed xs q (oneItem y) f u = let z = ap length u in omega arith
     by_handed xs q atEnd f u = let z : ◌≡◌ {A = ℕ} 0 1 = cc in absurd (omega arith)
-    by_handed xs q (asRefused ground cycle) f u = absurd u
+    by_handed xs q (asRefused why cycle) f u = absurd u
 
     by_start : (l : Listing) → cursor.start ≡ l → length (rest trace (step_of trace cursor).cursor) < length (rest trace cursor)
     by_start (Items n) f = by_handed (rest trace cursor) (step_of trace cursor).cursor (step_of trace cursor).handed e (step_unrolls trace cursor n f).0
-    by_start (Refused ground cycle) f =
-        let h = step_refused trace cursor ground cycle f in
+    by_start (Refused why cycle) f =
+        let h = step_refused trace cursor why cycle f in
         let z : ◌≡◌ {A = ℕ} 0 1 = cc in
         absurd (omega arith)

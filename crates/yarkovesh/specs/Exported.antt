@@ -19,7 +19,7 @@ fresh w m = state_of (fresh_board (setting_made w)) fresh_place m
 -- the board is made before the run is judged
 abbrev pub made_first : Verdict → Verdict → Verdict
 made_first Accepted run = run
-made_first (Refused ground) run = Refused ground
+made_first (Refused why) run = Refused why
 
 abbrev pub fresh_verdict : ℕ → List ℕ → List ℕ → ℕ → Verdict
 fresh_verdict w m words room = made_first (making_verdict w) (run_verdict (fresh w m) words room)

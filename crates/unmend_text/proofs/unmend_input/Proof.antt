@@ -6,7 +6,7 @@ use lib.ListN.{length}
 use lib.Seq.{length-take-le}
 use Rattle.laws.specs.StoreLaws.{length_stored}
 use Rattle.list_lines.specs.ListLines.{list_in}
-use Rattle.unmend_text.specs.UnmendTextLaws.{unmended_meets, too_long, no_list, other_length, not-its, its, words_front, trace_behind, words_stay, words_put}
+use Rattle.unmend_text.specs.UnmendTextLaws.{unmended_meets, too_long, no_list, other_length, not_its, its, words_front, trace_behind, words_stay, words_put}
 use Rattle.unmend_text.specs.UnmendTextLaws.{same_recorded, recorded_put, other_stays}
 use borrow.Author.Rules.{rules}
 use Rattle.unmend_text.proofs.unmend_input.Statement.{statement}
@@ -75,7 +75,7 @@ returns_3 c = let a = c.before.before.before.before.before.before.before.before.
     let clear = sym m.clear ∙ c.before.before.before.before.before.before.before.before.before.if2.true in
     let cycles = rw (m.from, m.cycles) at (sym c.before.before.before.before.before.before.before.before.count-behind.ensures ∙ c.before.before.before.before.before.before.if3.true) in
     let met = rw (words_front input words m clear, m.from) at c.before.before.before.unmend-behind.ensures in
-    let other = not-its (length words) input (search rules) clear cycles (sym met.answer ∙ c.if4.false) in
+    let other = not_its (length words) input (search rules) clear cycles (sym met.answer ∙ c.if4.false) in
     unmended_meets input words (sym other) (other_stays met c.if4.false) (words_put input words (search rules) m)
 
 same_length_5 : tie.Need-same-length-5

@@ -1,0 +1,15 @@
+use Rattle.board_lines.specs.BoardLines.{board_line}
+use borrow.Author.Rules.{rules}
+use Rattle.board_lines.proofs.read_line.Goals as goal
+
+pub returns-in-Silent : goal.returns-in-Silent
+unfolding board_line
+returns-in-Silent c = rw (← c.kind_of.ensures, c.in-Silent.is)
+
+pub returns-in-Clear : goal.returns-in-Clear
+unfolding board_line
+returns-in-Clear c = rw (← c.kind_of.ensures, c.in-Clear.is, ← c.read_words.ensures)
+
+pub returns-in-TooLong : goal.returns-in-TooLong
+unfolding board_line
+returns-in-TooLong c = rw (← c.kind_of.ensures, c.in-TooLong.is)

@@ -1,0 +1,15 @@
+use Rattle.common_lines.specs.CommonLines.{common_line}
+use borrow.Author.Rules.{rules}
+use Rattle.common_lines.proofs.read_line.Goals as goal
+
+pub returns-in-Silent : goal.returns-in-Silent
+unfolding common_line
+returns-in-Silent c = rw (← c.kind_of.ensures, c.in-Silent.is)
+
+pub returns-in-Clear : goal.returns-in-Clear
+unfolding common_line
+returns-in-Clear c = rw (← c.kind_of.ensures, c.in-Clear.is, ← c.read_words.ensures)
+
+pub returns-in-TooLong : goal.returns-in-TooLong
+unfolding common_line
+returns-in-TooLong c = rw (← c.kind_of.ensures, c.in-TooLong.is)

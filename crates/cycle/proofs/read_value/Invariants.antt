@@ -1,0 +1,14 @@
+-- The loop's invariant: the nibbles from place k on make v. A value with a nibble to come leaves room for it.
+use mathlib.Core.Path.{◌≡◌, sym, ◌∙◌}
+use Prim.Native.Nat.{◌+◌, ◌-◌, ◌≤◌}
+use native.Mathlib.Omega.{arith}
+use borrow.Author.Rules.{rules}
+use Rattle.cycle.specs.Cycle.{value}
+use Rattle.cycle.specs.CycleLaws.{value_where, value_of_none, value_before, value_leaves_room}
+use Rattle.cycle.proofs.read_value.Given as goal
+
+abbrev pub invariant-loop-k : goal.invariant-loop-k
+invariant-loop-k l = (l.k ≤ l.n) × (l.v ≡ value l.trace (l.from + l.k) (l.n - l.k))
+
+abbrev pub decreases-loop-k : goal.decreases-loop-k
+decreases-loop-k l = l.k

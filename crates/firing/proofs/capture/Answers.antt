@@ -1,0 +1,5 @@
+use borrow.Author.Rules.{rules}
+use Rattle.firing.proofs.capture.Goals as goal
+
+pub returns-then-sync : goal.returns-then-sync
+returns-then-sync c = rw c.if-sync.true

@@ -1,0 +1,7 @@
+use Rattle.firing.specs.Breakpoint.{pressed}
+use borrow.Author.Rules.{rules}
+use Rattle.firing.proofs.press.Goals as goal
+
+pub returns : goal.returns
+unfolding pressed
+returns c = rw (← c.is_bkd-disabled.ensures)

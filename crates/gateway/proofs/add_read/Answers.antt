@@ -1,0 +1,6 @@
+use Rattle.text.specs.TextLaws.{◌then◌}
+use borrow.Author.Rules.{rules}
+use Rattle.gateway.proofs.add_read.Goals as goal
+
+pub returns : goal.returns
+returns c = (rw c.make_room-from.ensures at c.put_read-end.ensures) then c.put_byte.ensures

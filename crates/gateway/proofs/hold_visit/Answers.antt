@@ -1,0 +1,11 @@
+use native.Mathlib.Omega.{arith}
+use Rattle.gateway.specs.GatewayLaws.{held_visit, put_shows}
+use borrow.Author.Rules.{rules}
+use Rattle.gateway.proofs.hold_visit.Goals as goal
+
+pub take_lines-over-requires : goal.take_lines-over-requires
+take_lines-over-requires c = (omega arith, put_shows _ _ c.send.ensures)
+
+pub returns : goal.returns
+returns c = held_visit c.send.ensures
+    c.take_lines-over.ensures c.tell_end.ensures

@@ -1,0 +1,20 @@
+use borrow.Author.Rules.{rules}
+use Prim.Native.Nat.{◌+◌, ◌-◌, ◌≤◌}
+use native.Mathlib.Omega.{arith}
+use native.Mathlib.Nat.{sub-zero}
+use mathlib.Core.Path.{◌≡◌, refl}
+use mathlib.Core.List.{[], ◌∷◌, ◌++◌, append_assoc}
+use lib.ListN.{length}
+use Rattle.console.specs.GatheringLaws.{Gathering, gathers_none, gathers_line, gathers_all}
+use Rattle.visit.specs.HandedOver.{handed_over}
+use Rattle.visit_lines.specs.VisitLines.{result_line, result_lines, read_line}
+use Rattle.visit_lines.specs.VisitLineLaws.{results_on}
+use Rattle.gateway.specs.GatewayLaws.{gathers_result}
+use Rattle.gateway.proofs.tell_results.Given as goal
+
+abbrev pub invariant-loop-j : goal.invariant-loop-j
+invariant-loop-j l =     (length l.text ≡ length l.initial.text) × (l.j ≤ l.visit.ends)
+    × Gathering l.initial.text (result_lines l.visit.ends 0 l.visit l.notes ++ read_line l.visit ∷ []) l.text l.at (result_lines (l.visit.ends - l.j) l.j l.visit l.notes ++ read_line l.visit ∷ [])
+
+abbrev pub decreases-loop-j : goal.decreases-loop-j
+decreases-loop-j l = l.visit.ends - l.j

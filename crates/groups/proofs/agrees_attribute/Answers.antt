@@ -1,0 +1,7 @@
+use Rattle.groups.specs.Groups.{attribute_agrees}
+use borrow.Author.Rules.{rules}
+use Rattle.groups.proofs.agrees_attribute.Goals as goal
+
+pub returns : goal.returns
+unfolding attribute_agrees
+returns c = rw (← c.agrees.ensures)

@@ -1,0 +1,7 @@
+use Rattle.groups.specs.Groups.{address_matches}
+use borrow.Author.Rules.{rules}
+use Rattle.groups.proofs.matches_address.Goals as goal
+
+pub returns : goal.returns
+unfolding address_matches
+returns c = rw (← c.is_inside-within.ensures)

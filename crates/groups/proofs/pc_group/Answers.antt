@@ -1,0 +1,7 @@
+use Rattle.groups.specs.Groups.{pc_group}
+use borrow.Author.Rules.{rules}
+use Rattle.groups.proofs.pc_group.Goals as goal
+
+pub returns : goal.returns
+unfolding pc_group
+returns c = rw (← c.agrees-agreed.ensures, ← c.turn.ensures)

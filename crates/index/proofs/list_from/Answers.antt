@@ -1,0 +1,5 @@
+use borrow.Author.Rules.{rules}
+use Rattle.index.proofs.list_from.Goals as goal
+
+pub returns : goal.returns
+returns c = c.list_from.ensures

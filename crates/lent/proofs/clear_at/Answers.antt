@@ -1,0 +1,7 @@
+use mathlib.Core.Path.{sym}
+use lib.Seq.{set_out}
+use borrow.Author.Rules.{rules}
+use Rattle.lent.proofs.clear_at.Goals as goal
+
+pub returns-else-i-memory : goal.returns-else-i-memory
+returns-else-i-memory c = sym (set_out _ _ _ c.if-i-memory.false)

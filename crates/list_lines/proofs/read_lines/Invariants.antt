@@ -1,0 +1,14 @@
+-- The loop's invariant: the lines from line k on, and those before, are all of them.
+use mathlib.Core.Path.{◌≡◌, refl, sym, ◌∙◌}
+use Prim.Native.Nat.{◌-◌, ◌≤◌}
+use native.Mathlib.Omega.{arith}
+use borrow.Author.Rules.{rules}
+use lib.ListN.{length, length-drop}
+use Rattle.list_lines.specs.ListLinesLaws.{line_took, Remaining, all_remain, next_remain, stops, ends}
+use Rattle.list_lines.proofs.read_lines.Given as goal
+
+abbrev pub invariant-loop-k : goal.invariant-loop-k
+invariant-loop-k l = (l.k ≤ l.count) × (l.at ≤ length l.bytes) × (length l.list ≡ length l.initial.list) × Remaining l.bytes l.count l.initial.list l.list l.at l.k
+
+abbrev pub decreases-loop-k : goal.decreases-loop-k
+decreases-loop-k l = l.count - l.k

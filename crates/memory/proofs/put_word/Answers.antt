@@ -1,0 +1,7 @@
+use native.Mathlib.Omega.{arith}
+use lib.ListN.{length-set}
+use borrow.Author.Rules.{rules}
+use Rattle.memory.proofs.put_word.Goals as goal
+
+pub bounds-memory-at-2 : goal.bounds-memory-at-2
+bounds-memory-at-2 c = simp length-set (omega arith)

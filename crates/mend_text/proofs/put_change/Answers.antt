@@ -1,0 +1,9 @@
+use Rattle.text.specs.TextLaws.{◌then◌}
+use borrow.Author.Rules.{rules}
+use Rattle.mend_text.proofs.put_change.Goals as goal
+
+pub returns : goal.returns
+returns c = c.put_decimal-at.ensures
+    then c.put_byte-at.ensures
+    then c.put_decimal-at-2.ensures
+    then c.put_byte.ensures

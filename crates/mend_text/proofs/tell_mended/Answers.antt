@@ -1,0 +1,37 @@
+use mathlib.Core.Path.{ap, sym, ◌∙◌}
+use lib.Seq.{length-take-le}
+use Rattle.text.specs.TextLaws.{◌then◌}
+use Rattle.mending.specs.MendingAnswer.{told_mending}
+use Rattle.mending.specs.MendingAnswerLaws.{list_put}
+use borrow.Author.Rules.{rules}
+use Rattle.mend_text.proofs.tell_mended.Goals as goal
+
+pub slice_bounds-put_list-end : goal.slice_bounds-put_list-end
+slice_bounds-put_list-end c = let m = c.mend_trace-answer.ensures in
+    let verdict = sym m.answer ∙ ap told_mending c.in-Changed.is in
+    (list_put m verdict).fits
+
+pub slice_bounds-put_list-end-in-Changed : goal.slice_bounds-put_list-end-in-Changed
+slice_bounds-put_list-end-in-Changed c = let m = c.mend_trace-answer.ensures in
+    let verdict = sym m.answer ∙ ap told_mending c.in-Changed.is in
+    sym (length-take-le _ _ (list_put m verdict).fits)
+
+pub returns-in-Refused : goal.returns-in-Refused
+returns-in-Refused c = let m = c.mend_trace-answer.ensures in
+    let verdict = sym m.answer ∙ ap told_mending c.in-Refused.is in
+    record {
+      told = rw verdict (c.put_refusal-at.ensures then c.put_byte-end.ensures);
+      writes = rw verdict;
+      cycles = m.cycles;
+      list = m.list;
+    }
+
+pub returns-in-Changed : goal.returns-in-Changed
+returns-in-Changed c = let m = c.mend_trace-answer.ensures in
+    let verdict = sym m.answer ∙ ap told_mending c.in-Changed.is in
+    record {
+      told = rw verdict (rw (list_put m verdict).list at c.put_list-end.ensures);
+      writes = rw verdict;
+      cycles = m.cycles;
+      list = m.list;
+    }

@@ -1,0 +1,12 @@
+use mathlib.Core.Path.{sym, ◌∙◌}
+use borrow.Author.Rules.{rules}
+use Rattle.mending.proofs.latest_of.Lts as lts
+use Rattle.mending.proofs.latest_of.Goals as goal
+
+-- src/lib.rt:56:9
+pub returns-then-is_marker : goal.returns-then-is_marker
+returns-then-is_marker c = rw (sym c.is_marker.ensures ∙ c.if-is_marker.true)
+
+-- src/lib.rt:52:1
+pub returns : goal.returns
+returns c = rw (sym c.is_marker.ensures ∙ c.if-is_marker.false)

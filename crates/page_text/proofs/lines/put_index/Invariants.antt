@@ -1,0 +1,15 @@
+use Prim.Native.Nat.{◌≤◌, ◌-◌}
+use mathlib.Core.Path.{◌≡◌, refl}
+use native.Mathlib.Omega.{arith}
+use lib.ListN.{length, drop, drop_of_length-le}
+use Rattle.text.specs.TextLaws.{Remains, all_remains, rest_remains, none_remains}
+use Rattle.page_text.specs.PageText.{index_from}
+use Rattle.page_text.specs.PageTextLaws.{index_on}
+use borrow.Author.Rules.{rules}
+use Rattle.page_text.proofs.lines.put_index.Given as goal
+
+abbrev pub invariant-loop-k : goal.invariant-loop-k
+invariant-loop-k l = (l.k ≤ length l.index) × (length l.text ≡ length l.initial.text) × Remains l.initial.text l.from (index_from 0 l.index) l.text l.at (index_from l.k (drop l.k l.index))
+
+abbrev pub decreases-loop-k : goal.decreases-loop-k
+decreases-loop-k l = length l.index - l.k

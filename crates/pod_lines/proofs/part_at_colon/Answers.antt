@@ -1,0 +1,59 @@
+use mathlib.Core.Path.{◌≡◌, refl, sym, ◌∙◌}
+use native.Mathlib.Omega.{arith}
+use Prim.Native.Nat.{◌-◌}
+use lib.ListN.{length, take, drop}
+use Rattle.words.specs.LineWords.{words_from}
+use Rattle.words.specs.LineWordLaws.{no_word, word_bounds, next_word}
+use Rattle.numbers.specs.Numbers.{numbers, gathered}
+use Rattle.numbers.specs.NumberLaws.{gather_goes_on}
+use Rattle.pod_lines.specs.PodLines.{before_colon, after_colon}
+use borrow.Author.Rules.{rules}
+use Rattle.pod_lines.proofs.part_at_colon.Goals as goal
+
+pub loop-before-init : goal.loop-before-init
+loop-before-init c = (refl, refl)
+
+pub returns-then-line-start : goal.returns-then-line-start
+returns-then-line-start c = let none = no_word c.args.line.now c.loop-before.at c.word_start-start.result c.word_start-start.ensures c.if-line-start.true in (sym (c.loop-before.invariant.0 ∙ rw none), sym (c.loop-before.invariant.1 ∙ rw none))
+
+pub slice_bounds-is_same-count : goal.slice_bounds-is_same-count
+slice_bounds-is_same-count c = omega (arith, word_bounds c.args.line.now c.loop-before.at c.word_start-start.result c.word_start-start.ensures c.word_end-stop.result c.if-line-start.false c.word_end-stop.ensures)
+
+pub slice_bounds-is_same-end : goal.slice_bounds-is_same-end
+slice_bounds-is_same-end c = (word_bounds c.args.line.now c.loop-before.at c.word_start-start.result c.word_start-start.ensures c.word_end-stop.result c.if-line-start.false c.word_end-stop.ensures).2
+
+pub returns-then-is_same : goal.returns-then-is_same
+returns-then-is_same c = let cut = next_word c.args.line.now c.loop-before.at c.word_start-start.result
+    c.word_start-start.ensures c.word_end-stop.result c.if-line-start.false c.word_end-stop.ensures in
+    (sym (c.loop-before.invariant.0 ∙ rw (cut, ← c.is_same.ensures, c.if-is_same.true)), sym (c.loop-before.invariant.1 ∙ rw (cut, ← c.is_same.ensures, c.if-is_same.true)))
+
+pub slice_bounds-read_number-count : goal.slice_bounds-read_number-count
+slice_bounds-read_number-count c = omega (
+      arith,
+      word_bounds c.args.line.now c.loop-before.at c.word_start-start.result
+          c.word_start-start.ensures c.word_end-stop.result c.if-line-start.false c.word_end-stop.ensures,
+    )
+
+pub slice_bounds-read_number-end : goal.slice_bounds-read_number-end
+slice_bounds-read_number-end c = (word_bounds c.args.line.now c.loop-before.at c.word_start-start.result
+    c.word_start-start.ensures c.word_end-stop.result c.if-line-start.false c.word_end-stop.ensures).2
+
+pub loop-before-smaller : goal.loop-before-smaller
+loop-before-smaller c = omega (
+      arith,
+      word_bounds c.args.line.now c.loop-before.at
+          c.word_start-start.result c.word_start-start.ensures c.word_end-stop.result
+          c.if-line-start.false c.word_end-stop.ensures,
+    )
+
+pub loop-before-preserved : goal.loop-before-preserved
+loop-before-preserved c = let line = c.args.line.now in
+    let start = c.word_start-start.result in
+    let stop = c.word_end-stop.result in
+    let cut = next_word line c.loop-before.at start c.word_start-start.ensures stop
+    c.if-line-start.false c.word_end-stop.ensures in
+    let word = take (stop - start) (drop start line) in
+    let gathers = gather_goes_on c.loop-before.before c.add_number-before.result c.read_number.result word (before_colon (words_from line stop)) c.read_number.ensures c.add_number-before.ensures in (
+      c.loop-before.invariant.0 ∙ rw (cut, ← c.is_same.ensures, c.if-is_same.false) gathers,
+      c.loop-before.invariant.1 ∙ rw (cut, ← c.is_same.ensures, c.if-is_same.false),
+    )

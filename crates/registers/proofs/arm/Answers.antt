@@ -1,0 +1,5 @@
+use borrow.Author.Rules.{rules}
+use Rattle.registers.proofs.arm.Goals as goal
+
+pub returns : goal.returns
+returns c = rw c.flag_of.ensures.0

@@ -1,0 +1,20 @@
+use Rattle.request_lines.specs.RequestLines.{plain_request}
+use borrow.Author.Rules.{rules}
+use Rattle.request_lines.proofs.plain_request.Lts as lts
+use Rattle.request_lines.proofs.plain_request.Goals as goal
+
+pub returns-then-is_same : goal.returns-then-is_same
+unfolding plain_request
+returns-then-is_same c = rw (← c.is_same.ensures, c.if-is_same.true)
+
+pub returns-then-is_same-2 : goal.returns-then-is_same-2
+unfolding plain_request
+returns-then-is_same-2 c = rw (← c.is_same.ensures, c.if-is_same.false, ← c.is_same-2.ensures, c.if-is_same-2.true)
+
+pub returns-then-is_same-3 : goal.returns-then-is_same-3
+unfolding plain_request
+returns-then-is_same-3 c = rw (← c.is_same.ensures, c.if-is_same.false, ← c.is_same-2.ensures, c.if-is_same-2.false, ← c.is_same-3.ensures, c.if-is_same-3.true)
+
+pub returns : goal.returns
+unfolding plain_request
+returns c = rw (← c.is_same.ensures, c.if-is_same.false, ← c.is_same-2.ensures, c.if-is_same-2.false, ← c.is_same-3.ensures, c.if-is_same-3.false)

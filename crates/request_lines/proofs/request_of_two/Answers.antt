@@ -1,0 +1,9 @@
+use borrow.Author.Rules.{rules}
+use Rattle.request_lines.proofs.request_of_two.Lts as lts
+use Rattle.request_lines.proofs.request_of_two.Goals as goal
+
+pub returns-in-Of : goal.returns-in-Of
+returns-in-Of c = rw (← c.size_behind.ensures, c.in-Of.is)
+
+pub returns-in-NoSize : goal.returns-in-NoSize
+returns-in-NoSize c = rw (← c.size_behind.ensures, c.in-NoSize.is, ← c.register_written.ensures)

@@ -1,0 +1,6 @@
+use mathlib.Core.Path.{refl}
+use borrow.Author.Rules.{rules}
+use Rattle.steps.proofs.hand_own.Goals as goal
+
+pub returns : goal.returns
+returns c = refl

@@ -1,0 +1,5 @@
+use borrow.Author.Rules.{rules}
+use Rattle.steps.proofs.hand_value.Goals as goal
+
+pub returns : goal.returns
+returns c = rw c.read_value-value.ensures

@@ -1,0 +1,6 @@
+use mathlib.Core.Path.{refl}
+use borrow.Author.Rules.{rules}
+use Rattle.summary.proofs.noting.note_item.Goals as goal
+
+pub returns : goal.returns
+returns c = (refl, rw c.first_cycle.ensures, refl)

@@ -1,0 +1,13 @@
+use borrow.Author.Tests.{eq-eqb, ne_eqb}
+use Rattle.cycle.specs.CycleItems.{of_value}
+use Rattle.summary.specs.NotingLaws.{note_one, note_none}
+use borrow.Author.Rules.{rules}
+use Rattle.summary.proofs.noting.note_value.Goals as goal
+
+pub returns-then-carried-eq1 : goal.returns-then-carried-eq1
+returns-then-carried-eq1 c = let a = c in
+    λ trace. rw (eq-eqb _ _ c.if-carried-eq1.true)
+    (note_one (of_value trace a.args.i a.args.carried.marker) a.requires.1 c.note_item.ensures)
+
+pub returns-else-carried-eq1 : goal.returns-else-carried-eq1
+returns-else-carried-eq1 c = λ trace. rw (ne_eqb _ _ c.if-carried-eq1.false) note_none

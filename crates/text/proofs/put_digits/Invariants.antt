@@ -1,0 +1,15 @@
+use mathlib.Core.Path.{◌≡◌, refl}
+use native.Mathlib.Omega.{arith}
+use native.Mathlib.Nat.{mod-lt}
+use Rattle.text.specs.TextLaws.{Remains, all_remains, rest_remains, none_remains}
+use Rattle.text.specs.NumberText.{digits_text}
+use Rattle.text.specs.NumberTextLaws.{digits_on, digits_none}
+use lib.ListN.{length}
+use borrow.Author.Rules.{rules}
+use Rattle.text.proofs.put_digits.Given as goal
+
+abbrev pub invariant-loop-left : goal.invariant-loop-left
+invariant-loop-left l = (length l.text ≡ length l.initial.text) × Remains l.initial.text l.at (digits_text l.base l.digits l.value) l.text l.to (digits_text l.base l.left l.value)
+
+abbrev pub decreases-loop-left : goal.decreases-loop-left
+decreases-loop-left l = l.left

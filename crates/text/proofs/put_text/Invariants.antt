@@ -1,0 +1,14 @@
+use lib.ListN.{length, drop, drop_of_length-le}
+use Rattle.laws.specs.PlaceLaws.{from_here}
+use Rattle.text.specs.TextLaws.{Remains, all_remains, rest_remains, none_remains}
+use Prim.Native.Nat.{◌≤◌, ◌-◌}
+use mathlib.Core.Path.{◌≡◌, refl}
+use native.Mathlib.Omega.{arith}
+use borrow.Author.Rules.{rules}
+use Rattle.text.proofs.put_text.Given as goal
+
+abbrev pub invariant-loop-i : goal.invariant-loop-i
+invariant-loop-i l = (l.i ≤ length l.part) × (length l.text ≡ length l.initial.text) × Remains l.initial.text l.at l.part l.text l.to (drop l.i l.part)
+
+abbrev pub decreases-loop-i : goal.decreases-loop-i
+decreases-loop-i l = length l.part - l.i

@@ -1,0 +1,14 @@
+use Prim.Native.Nat.{◌/◌, ◌^◌}
+use mathlib.Core.Path.{◌≡◌, refl, sym, ◌∙◌}
+use Rattle.text.specs.NumberTextLaws.{shift_step, shift_done}
+use borrow.Author.Rules.{rules}
+use Rattle.text.proofs.shifted.Goals as goal
+
+pub loop-left-init : goal.loop-left-init
+loop-left-init c = refl
+
+pub loop-left-preserved : goal.loop-left-preserved
+loop-left-preserved c = shift_step _ c.loop-left.rest c.loop-left.left c.loop-left-test.true ∙ c.loop-left.invariant
+
+pub returns : goal.returns
+returns c = sym (shift_done _ c.loop-left.rest c.loop-left.left c.loop-left-test.false) ∙ c.loop-left.invariant

@@ -1,0 +1,13 @@
+use Prim.Native.Nat.{◌≤◌, ◌-◌, ◌/◌, ◌^◌}
+use mathlib.Core.Path.{◌≡◌, refl, sym, ◌∙◌}
+use native.Mathlib.Omega.{arith}
+use Rattle.text.specs.NumberText.{width_from}
+use Rattle.text.specs.NumberTextLaws.{width_here, width_next, left_none, left_some, left_first, left_next}
+use borrow.Author.Rules.{rules}
+use Rattle.text.proofs.width_of.Given as goal
+
+abbrev pub invariant-loop-digits : goal.invariant-loop-digits
+invariant-loop-digits l = (l.digits ≤ 20) × (l.rest ≡ l.value / l.base ^ l.digits) × (width_from l.base l.value (20 - l.digits) l.digits ≡ width_from l.base l.value 19 1)
+
+abbrev pub decreases-loop-digits : goal.decreases-loop-digits
+decreases-loop-digits l = 20 - l.digits

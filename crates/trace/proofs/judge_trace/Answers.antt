@@ -1,0 +1,7 @@
+use mathlib.Core.Path.{◌∙◌}
+use Rattle.trace.specs.TraceReadingLaws.{reading_whole}
+use borrow.Author.Rules.{rules}
+use Rattle.trace.proofs.judge_trace.Goals as goal
+
+pub returns : goal.returns
+returns c = rw c.nothing_carried.ensures at c.judge_from.ensures ∙ reading_whole c.args.trace.now

@@ -1,0 +1,15 @@
+use Rattle.trace_list.specs.Asked.{none, one, more}
+use borrow.Author.Rules.{rules}
+use Rattle.trace_list.proofs.read_asked.Goals as goal
+
+-- src/main.rt:214:9
+pub returns-then-count-lt2 : goal.returns-then-count-lt2
+returns-then-count-lt2 c = none
+
+-- src/main.rt:217:9
+pub returns-then-count-gt2 : goal.returns-then-count-gt2
+returns-then-count-gt2 c = more
+
+-- src/main.rt:209:1
+pub returns : goal.returns
+returns c = rw c.read_from.ensures (one _)

@@ -1,0 +1,27 @@
+use Prim.Native.Nat.{◌-◌, ◌≤◌}
+use mathlib.Core.Path.{◌≡◌, refl, sym, ◌∙◌}
+use native.Mathlib.Omega.{arith}
+use lib.ListN.{length, drop}
+use Rattle.words.specs.LineWords.{same}
+use Rattle.words.specs.LineWordLaws.{same_length, same_differs, same_goes_on, same_ends}
+use borrow.Author.Rules.{rules}
+use Rattle.words.proofs.is_same.Goals as goal
+
+pub returns-then-word-name : goal.returns-then-word-name
+returns-then-word-name c = sym (same_length c.args.word.now c.args.name.now c.if-word-name.true)
+
+pub loop-i-init : goal.loop-i-init
+loop-i-init c = (omega arith, refl)
+
+pub returns-then-lower_of-name : goal.returns-then-lower_of-name
+returns-then-lower_of-name c = sym (c.loop-i.invariant.1 ∙ same_differs c.args.word.now c.args.name.now
+    c.loop-i.i c.loop-i-test.true (omega arith) (λ e. c.if-lower_of-name.true (c.lower_of.ensures ∙ e)))
+
+pub loop-i-preserved : goal.loop-i-preserved
+loop-i-preserved c = let given = c.args in let at = c.loop-i in (
+  omega arith,
+  at.invariant.1 ∙ same_goes_on given.word.now given.name.now at.i c.loop-i-test.true (omega arith) (sym c.lower_of.ensures ∙ c.if-lower_of-name.false),
+)
+
+pub returns : goal.returns
+returns c = sym (c.loop-i.invariant.1 ∙ same_ends c.args.word.now c.args.name.now c.loop-i.i c.loop-i-test.false (omega arith))

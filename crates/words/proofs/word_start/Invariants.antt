@@ -1,0 +1,15 @@
+use Prim.Native.Nat.{◌+◌, ◌-◌}
+use mathlib.Core.Path.{◌≡◌, refl, sym, ◌∙◌}
+use native.Mathlib.Omega.{arith}
+use lib.ListN.{length, drop}
+use borrow.Author.Tests.{not-true, not-false}
+use Rattle.words.specs.LineWords.{gap_length}
+use Rattle.words.specs.LineWordLaws.{gap_stops, gap_goes_on, gap_out}
+use borrow.Author.Rules.{rules}
+use Rattle.words.proofs.word_start.Given as goal
+
+abbrev pub invariant-loop-i : goal.invariant-loop-i
+invariant-loop-i l = l.i + gap_length (drop l.i l.line) ≡ l.at + gap_length (drop l.at l.line)
+
+abbrev pub decreases-loop-i : goal.decreases-loop-i
+decreases-loop-i l = length l.line - l.i
