@@ -2,7 +2,8 @@
 use Prim.Native.Nat.{ℕ}
 use mathlib.Core.Path.{◌≡◌}
 use mathlib.Core.List.{List, [], ◌∷◌}
-use types.Run.{OneOf, miss}
+use borrow.Enum.Refused.{Among, opened}
+use types.Run.{miss}
 use denote.Enum.Declared
 use Rattle.steps.specs.declared.Cursor.{Cursor}
 use Rattle.steps.specs.declared.Handed.{Handed}
@@ -14,11 +15,11 @@ use Rattle.trace_list.specs.ListerPartsMirror.{GoodStart}
 use Rattle.trace_list.specs.ListerGatheringLaws.{unrolls}
 
 pub none_left : (trace : List ℕ) (cursor : Cursor) → GoodStart cursor.start
-    → OneOf (1 ∷ 2 ∷ []) (Declared.tag_of declared.the_type (step_of trace cursor).handed) → rest trace cursor ≡ []
+    → Among (1 ∷ 2 ∷ []) (Declared.tag_of declared.the_type (step_of trace cursor).handed) → rest trace cursor ≡ []
 none_left trace cursor good h = by_handed (step_of trace cursor).handed h (unrolls trace cursor good).0
   where
-    by_handed : (h : Handed) → OneOf (1 ∷ 2 ∷ []) (Declared.tag_of declared.the_type h)
+    by_handed : (h : Handed) → Among (1 ∷ 2 ∷ []) (Declared.tag_of declared.the_type h)
         → Unrolls trace (rest trace cursor) (step_of trace cursor).cursor h → rest trace cursor ≡ []
-    by_handed (oneItem x) n u = absurd (miss (1 ∷ 2 ∷ []) 0 _ n)
+    by_handed (oneItem x) n u = absurd (miss (1 ∷ 2 ∷ []) 0 _ (opened n))
     by_handed atEnd n u = u.0
     by_handed (asRefused ground cycle) n u = absurd u

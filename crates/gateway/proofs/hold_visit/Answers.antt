@@ -4,7 +4,7 @@ use borrow.Author.Rules.{rules}
 use Rattle.gateway.proofs.hold_visit.Goals as goal
 
 pub take_lines-over-requires : goal.take_lines-over-requires
-take_lines-over-requires c = (omega arith, put_shows _ _ c.send.ensures)
+take_lines-over-requires c = record { line_is_long = omega arith; shows = put_shows _ _ c.send.ensures }
 
 pub returns : goal.returns
 returns c = held_visit c.send.ensures

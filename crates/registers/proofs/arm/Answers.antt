@@ -2,4 +2,4 @@ use borrow.Author.Rules.{rules}
 use Rattle.registers.proofs.arm.Goals as goal
 
 pub returns : goal.returns
-returns c = rw c.flag_of.ensures.0
+returns c = rw c.flag_of.ensures.value

@@ -4,7 +4,7 @@ use Rattle.registers.proofs.write_debug.Goals as goal
 
 pub returns-in-Csr : goal.returns-in-Csr
 unfolding debug_loaded
-returns-in-Csr c = rw (c.in-Csr.is, ← c.written_bits.ensures.0)
+returns-in-Csr c = rw (c.in-Csr.is, ← c.written_bits.ensures.value)
 
 pub returns-in-Baar : goal.returns-in-Baar
 unfolding debug_loaded

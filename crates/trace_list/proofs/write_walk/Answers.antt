@@ -14,13 +14,13 @@ use Rattle.walk.specs.WalkRestLaws.{rest, rest_falls}
 use Rattle.trace_list.proofs.write_walk.Goals as goal
 
 pub loop-item-init : goal.loop-item-init
-loop-item-init c = (refl, c.requires.1.1, rw (start_rest _ _ c.requires.1.0) (gathers_none _ _))
+loop-item-init c = (refl, c.requires.start_meets.1, rw (start_rest _ _ c.requires.start_meets.0) (gathers_none _ _))
 
 pub word_of-requires : goal.word_of-requires
 word_of-requires c = let a = c.args in
     let w = c.loop-item in 
     let e = ap (λ (t : Step). t.handed) (sym c.next_item-step.ensures) ∙ c.in-Item.is in
-    omega (arith, handed_within a.trace.now w.cursor c.in-Item.item e, c.requires.0)
+    omega (arith, handed_within a.trace.now w.cursor c.in-Item.item e, c.requires.trace_fits)
 
 pub loop-item-smaller : goal.loop-item-smaller
 loop-item-smaller c = let a = c.args in

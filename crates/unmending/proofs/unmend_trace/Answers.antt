@@ -23,7 +23,7 @@ slice_bounds-back-end-2 c = let a = c.args in
     let trace = a.trace.now in
     let front = copied_front c.put_text.ensures (omega (arith, length-replicate {A = ℕ} 65536 0)) in
     let put = rw front at c.put_back.ensures in
-    omega (arith, length-append c.put_back.new.0 (drop (length trace) c.put_text.new.0), back_length trace a.list.now put)
+    omega (arith, length-append c.put_back.new.trace (drop (length trace) c.put_text.new.text), back_length trace a.list.now put)
 
 pub slice_bounds-gives_both-end : goal.slice_bounds-gives_both-end
 slice_bounds-gives_both-end c = let a = c.args in

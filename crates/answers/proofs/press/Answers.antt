@@ -1,0 +1,6 @@
+use Rattle.answers.specs.SaidLaws.{breakpoint_outcome_lem}
+use borrow.Author.Rules.{rules}
+use Rattle.answers.proofs.press.Goals as goal
+
+pub returns : goal.returns
+returns c = let taken = c.press_breakpoint-answer.ensures in (rw (← taken.board) c.bench_after.ensures.0, rw (← breakpoint_outcome_lem taken, c.bench_after.ensures.1) c.put_breakpoint-end.ensures)

@@ -1,0 +1,5 @@
+use borrow.Author.Rules.{rules}
+use Rattle.step.proofs.hold.Goals as goal
+
+pub returns : goal.returns
+returns c = rw (← c.chain_in.ensures) c.set_place.ensures

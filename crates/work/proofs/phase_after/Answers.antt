@@ -1,0 +1,5 @@
+use borrow.Author.Rules.{rules}
+use Rattle.work.proofs.phase_after.Goals as goal
+
+pub returns-in-TwoWords : goal.returns-in-TwoWords
+returns-in-TwoWords c = rw c.in-TwoWords.is
