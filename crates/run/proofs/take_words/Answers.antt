@@ -1,7 +1,6 @@
 use lib.ListN.{length, drop, get_or, length-set}
 use Prim.Native.Nat.{◌≤◌, ◌-◌}
 use mathlib.Core.Path.{◌≡◌, refl, sym, ap, ◌∙◌}
-use mathlib.Core.Logic.{⊎_elim}
 use Rattle.board.specs.Setters.{with_fault}
 use native.Mathlib.Omega.{arith}
 use borrow.Author.Rules.{rules}
@@ -14,7 +13,7 @@ use Rattle.run.specs.Run.{ran}
 use Rattle.run.specs.RunMirror.{written}
 use Rattle.run.specs.RunLaws.{stepped_as, goes_on, ran_out, written_out}
 use Rattle.run.specs.ShortWayLaws.{short_way_step}
-use Rattle.run.proofs.take_words.Lts as lts
+use Rattle.run.proofs.take_words.Goals.{in-NoFault, in-FaultAt}
 use Rattle.run.proofs.take_words.Goals as goal
 
 pub loop-i-init : goal.loop-i-init
@@ -50,10 +49,10 @@ loop-i-preserved-in_default c = let at = c.loop-i in
     let word = get_or words at.i 0 in
     let before = state_of at.b at.p at.memory in
     let cleared : state_of c.match-held.b at.p at.memory ≡ word_taken before word =
-    ⊎_elim
-    (λ w. ap (λ b. state_of b at.p at.memory) w.2 ∙ none_cleared before word w.1.given.1)
-    (λ w. ap (λ b. state_of b at.p at.memory) (w.3 ∙ w.2.ensures) ∙ ap (λ f. state_of (with_fault at.b f) at.p at.memory) c.after_word-fault.ensures)
-    c.match-held.branch in
+    elim c.match-held.branch [
+      in-NoFault w ↦ ap (λ b. state_of b at.p at.memory) w.b-is ∙ none_cleared before word w.in-NoFault.is
+    | in-FaultAt w ↦ ap (λ b. state_of b at.p at.memory) (w.b-is ∙ w.set_fault-b.ensures) ∙ ap (λ f. state_of (with_fault at.b f) at.p at.memory) c.after_word-fault.ensures
+    ] in
     let plan = c.plan_for-plan in
     let step = stepped_as at.b at.p at.memory word plan.ensures
     (ap (λ (p : Place). state_of c.match-held.b p at.memory) c.settle_without_work-p.ensures ∙ no_work c.match-held.b at.p at.memory plan.result c.in_default.in_default-own.keys2 ∙ ap (left plan.result) cleared) in

@@ -14,7 +14,6 @@ use Rattle.run.specs.Run.{ran}
 use Rattle.run.specs.RunMirror.{written}
 use Rattle.run.specs.RunLaws.{stepped_as, goes_on, ran_out, written_out}
 use Rattle.run.specs.ShortWayLaws.{short_way_step}
-use Rattle.run.proofs.take_words.Lts as lts
 use Rattle.run.proofs.take_words.Given as goal
 
 abbrev pub invariant-loop-i : goal.invariant-loop-i

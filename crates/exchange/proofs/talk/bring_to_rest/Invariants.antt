@@ -1,0 +1,16 @@
+use Rattle.exchange.specs.SendingLaws.{not_so, so_after_all}
+use Prim.Native.Nat.{◌-◌}
+use mathlib.Core.Path.{◌≡◌, refl, ◌∙◌}
+use native.Mathlib.Omega.{arith}
+use borrow.Author.Rules.{rules}
+use lib.ListN.{length}
+use Rattle.board.specs.State.{state_of}
+use Rattle.round_trip.specs.BroughtToRest.{rest_budget}
+use Rattle.round_trip.specs.UnderwayLaws.{RestUnderway, rest_begins, rest_goes_on, rest_is_reached}
+use Rattle.exchange.proofs.talk.bring_to_rest.Given as goal
+
+abbrev pub invariant-loop-memory : goal.invariant-loop-memory
+invariant-loop-memory l = (length l.memory ≡ length l.initial.memory) × RestUnderway l.n (state_of l.b l.p l.memory) (state_of l.initial.b l.initial.p l.initial.memory)
+
+abbrev pub decreases-loop-memory : goal.decreases-loop-memory
+decreases-loop-memory l = rest_budget - l.n

@@ -1,0 +1,17 @@
+use Prim.Native.Nat.{◌+◌, ◌-◌}
+use mathlib.Core.Path.{◌≡◌, refl, ap, ◌∙◌}
+use native.Mathlib.Omega.{arith}
+use borrow.Author.Rules.{rules}
+use lib.ListN.{length}
+use Rattle.board.specs.State.{state_of}
+use Rattle.step.specs.Step.{stepped}
+use Rattle.round_trip.specs.TalkMirror.{talk_budget}
+use Rattle.round_trip.specs.UnderwayLaws.{TalkUnderway, talk_begins, talk_goes_on, talk_is_closed, sent_clear}
+use Rattle.exchange.specs.SendingLaws.{not_so, so_after_all}
+use Rattle.exchange.proofs.talk.read_on.Given as goal
+
+abbrev pub invariant-loop-request : goal.invariant-loop-request
+invariant-loop-request l = (length l.memory ≡ length l.initial.memory) × TalkUnderway l.request l.packets l.reader (state_of l.b l.p l.memory) (state_of l.initial.b l.initial.p l.initial.memory)
+
+abbrev pub decreases-loop-request : goal.decreases-loop-request
+decreases-loop-request l = talk_budget + 1 - l.packets

@@ -1,0 +1,5 @@
+use borrow.Author.Rules.{rules}
+use Rattle.yarkovesh.proofs.listing_number.Goals as goal
+
+pub returns-in-Refused : goal.returns-in-Refused
+returns-in-Refused c = rw (c.in-Refused.is, ← c.number_of.ensures)
