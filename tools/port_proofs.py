@@ -78,6 +78,7 @@ class Function:
         if not parts:
             return "c", [], None
         first, rest = parts[0], parts[1:]
+        first = {"well-formed": "well_formed", "type-inv": "type_inv"}.get(first, first)
         if first in ("args", "requires", "ranges", "well_formed", "captures", "utf8", "type_inv", "lifetimes"):
             return f"c.{first}", rest, None
         # an arm's field

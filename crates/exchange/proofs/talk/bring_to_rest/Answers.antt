@@ -1,6 +1,5 @@
-use Rattle.exchange.specs.SendingLaws.{not_so, so_after_all}
 use Prim.Native.Nat.{◌-◌}
-use mathlib.Core.Path.{◌≡◌, refl, ◌∙◌}
+use mathlib.Core.Path.{◌≡◌, refl, sym, ◌∙◌}
 use native.Mathlib.Omega.{arith}
 use borrow.Author.Rules.{rules}
 use lib.ListN.{length}
@@ -19,17 +18,17 @@ pub overflow_add-n : goal.overflow_add-n
 overflow_add-n c = omega (arith, c.loop-memory.invariant.1.within)
 
 pub loop-memory-smaller : goal.loop-memory-smaller
-loop-memory-smaller c = let more = not_so c.is_resting.ensures c.loop-memory-test.true in
+loop-memory-smaller c = let more = sym c.is_resting.ensures ∙ c.loop-memory-test.true in
     omega (arith, (rest_goes_on c.loop-memory.invariant.1 more).within)
 
 pub loop-memory-preserved : goal.loop-memory-preserved
 loop-memory-preserved c = let at = c.loop-memory in
     let sent = c.send-sent in
-    let more = not_so c.is_resting.ensures c.loop-memory-test.true in
+    let more = sym c.is_resting.ensures ∙ c.loop-memory-test.true in
     (sent.auto.memory ∙ at.invariant.0, rw sent.ensures.1 (rest_goes_on at.invariant.1 more))
 
 pub shape_of-memory : goal.shape_of-memory
 shape_of-memory c = c.loop-memory.invariant.0
 
 pub returns : goal.returns
-returns c = rest_is_reached c.loop-memory.invariant.1 (so_after_all c.is_resting.ensures c.loop-memory-test.false)
+returns c = rest_is_reached c.loop-memory.invariant.1 (sym c.is_resting.ensures ∙ c.loop-memory-test.false)

@@ -1,5 +1,5 @@
 use Prim.Native.Nat.{◌+◌, ◌-◌}
-use mathlib.Core.Path.{◌≡◌, refl, ap, ◌∙◌}
+use mathlib.Core.Path.{◌≡◌, refl, sym, ap, ◌∙◌}
 use native.Mathlib.Omega.{arith}
 use borrow.Author.Rules.{rules}
 use lib.ListN.{length}
@@ -7,7 +7,6 @@ use Rattle.board.specs.State.{state_of}
 use Rattle.step.specs.Step.{stepped}
 use Rattle.round_trip.specs.TalkMirror.{talk_budget}
 use Rattle.round_trip.specs.UnderwayLaws.{TalkUnderway, talk_begins, talk_goes_on, talk_is_closed, sent_clear}
-use Rattle.exchange.specs.SendingLaws.{not_so, so_after_all}
 use Rattle.exchange.proofs.talk.read_on.Given as goal
 
 abbrev pub invariant-loop-request : goal.invariant-loop-request
