@@ -1,0 +1,9 @@
+use Rattle.asking.specs.AskingLaws.{exchange_outcome}
+use mathlib.Core.Path.{ap}
+use Rattle.board.specs.State.{State}
+use Rattle.answers.specs.Bench.{with_state}
+use borrow.Author.Rules.{rules}
+use Rattle.waits_lines.proofs.converse.Goals as goal
+
+pub returns : goal.returns
+returns c = let taken = c.exchange-returned.ensures in (exchange_outcome taken, ap (λ (s : State). with_state c.args.bench s) taken.state)

@@ -1,0 +1,14 @@
+use Prim.Native.Nat.{◌+◌, ◌-◌}
+use mathlib.Core.Path.{◌≡◌, refl, sym, ◌∙◌}
+use native.Mathlib.Omega.{arith}
+use lib.ListN.{length, drop}
+use Rattle.waits_lines.specs.WaitsLines.{line_length}
+use Rattle.waits_lines.specs.WaitsLinesLaws.{line_stops, line_goes_on, line_out}
+use borrow.Author.Rules.{rules}
+use Rattle.waits_lines.proofs.line_end.Given as goal
+
+abbrev pub invariant-loop-i : goal.invariant-loop-i
+invariant-loop-i l = l.i + line_length (drop l.i l.input) ≡ l.from + line_length (drop l.from l.input)
+
+abbrev pub decreases-loop-i : goal.decreases-loop-i
+decreases-loop-i l = length l.input - l.i

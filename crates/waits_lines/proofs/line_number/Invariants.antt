@@ -1,0 +1,17 @@
+use Prim.Native.Nat.{suc, ◌+◌, ◌-◌, ◌≤◌}
+use mathlib.Core.Path.{◌≡◌, refl, sym, ◌∙◌}
+use mathlib.Core.Bool.{cond}
+use mathlib.Core.Logic.{⊎_elim}
+use native.Mathlib.Omega.{arith}
+use native.Mathlib.Numerals.{add-one}
+use lib.ListN.{length, drop}
+use Rattle.waits_lines.specs.WaitsLines.{numbered, line_number}
+use Rattle.waits_lines.specs.WaitsLinesLaws.{numbered_on, numbered_out}
+use borrow.Author.Rules.{rules}
+use Rattle.waits_lines.proofs.line_number.Given as goal
+
+abbrev pub invariant-loop-i : goal.invariant-loop-i
+invariant-loop-i l = (l.n ≤ l.i + 1) × (numbered l.n after-cr (drop l.i l.before) ≡ line_number l.before)
+
+abbrev pub decreases-loop-i : goal.decreases-loop-i
+decreases-loop-i l = length l.before - l.i

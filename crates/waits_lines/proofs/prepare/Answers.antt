@@ -1,0 +1,5 @@
+use borrow.Author.Rules.{rules}
+use Rattle.waits_lines.proofs.prepare.Goals as goal
+
+pub returns : goal.returns
+returns c = let said = c.answer_line-answered.ensures in rw (said.memory, said.bench)
