@@ -14,7 +14,7 @@ import re
 # Words of the desk's language and of outputs, which pages quote beside the names.
 SAID = {"bus-error", "not-read", "not-ready", "not-yet", "nothing-started"}
 NAME = r"[^\s(){}.;,@\"«»\[\]\\:]+"
-TOKEN = re.compile(r"\"(?:[^\"\\]|\\.)*\"|--[^\n]*|//[^\n]*|" + NAME)
+TOKEN = re.compile(r"\"(?:[^\"\\]|\\[\s\S])*\"|--[^\n]*|//[^\n]*|" + NAME)
 DECLARED = re.compile(r"^( *)(?:(?:abbrev|unfoldable|opaque|pub|ruleset|instance)\s+)*([A-Za-z_][^\s:(){}.,]*)\s*:\s")
 RECORD = re.compile(r"^( *)(?:(?:abbrev|unfoldable|pub)\s+)*(record|data)\s+(\S+)")
 

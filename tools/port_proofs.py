@@ -250,7 +250,7 @@ def convert(crate, path, of, said):
         body = "\n".join(clauses)
         it = re.match(r"\S+((?: +[^\s=]+)*)\s*=\s?((?:.|\n)*)", body)
         args, rhs = it[1].split(), it[2]
-        if rhs.strip() == "search rules":
+        if rhs.strip() == "search rules" and not unfolding:
             continue
         asked = f.of["asked_at"][i][0] if i < len(f.of["asked_at"]) else None
         rhs = f.body(rhs, f.chain(asked), said)

@@ -8,7 +8,9 @@ ghost use Rattle.console.specs.LineReading.{CutMeets, HoldMeets, NextMeets, unre
 ghost use Rattle.console.specs.LineWriting.{line_end};
 ghost use Rattle.console.specs.GatheringMirror.{place_in};
 
-use libc::{STDIN_FILENO, STDOUT_FILENO};
+pub mod arguments;
+
+use std::io::{Read, Stdin, Stdout, Write};
 
 // The part of the source that was read and not yet taken.
 #[derive(Clone, Copy)]
@@ -96,11 +98,30 @@ fn cut_line(bytes: &[u8], line: &mut [u8], before: usize) -> Cut
     }
 }
 
-fn refill(source: &mut [u8]) -> usize
+// A read that fails counts as one that gave nothing: the input has ended.
+fn refill(input: Stdin, source: &mut [u8]) -> usize
     ensures { result ≤ length source.new }
 {
-    let got = libc::read(STDIN_FILENO, source);
-    io::count(got, source)
+    let mut input = input;
+    match input.read(source) {
+        Ok(count) => count,
+        Err(_) => 0,
+    }
+}
+
+// Reads until the buffer is full or the input has ended; how many bytes are at its front then.
+pub fn read_full(input: Stdin, buffer: &mut [u8]) -> usize
+    ensures { result ≤ length buffer.new }
+{
+    let mut count = 0;
+    while count < buffer.len() {
+        let more = refill(input, &mut buffer[count..]);
+        if more == 0 {
+            return count;
+        }
+        count += more;
+    }
+    count
 }
 
 fn least(end: usize, most: usize) -> usize
@@ -113,7 +134,7 @@ fn least(end: usize, most: usize) -> usize
 }
 
 // The next line without its line end. The budget of reads is never used up.
-pub fn next_line(source: &mut [u8], unread: Unread, line: &mut [u8]) -> LineTaken
+pub fn next_line(input: Stdin, source: &mut [u8], unread: Unread, line: &mut [u8]) -> LineTaken
     ensures { NextMeets source.old (unread_of source.old unread.at unread.end) line.old result.input
         source.new result.unread.end (unread_of source.new result.unread.at result.unread.end) line.new }
 {
@@ -133,7 +154,7 @@ pub fn next_line(source: &mut [u8], unread: Unread, line: &mut [u8]) -> LineTake
     let mut budget: u64 = 0xFFFFFFFFFFFFFFFF;
     while 0 < budget {
         budget -= 1;
-        let got = refill(source);
+        let got = refill(input, source);
         let part = cut_line(&source[..got], line, held);
         held = part.held;
         if part.ended {
@@ -158,26 +179,35 @@ pub fn next_line(source: &mut [u8], unread: Unread, line: &mut [u8]) -> LineTake
     }
 }
 
-// Writes the text up to a place to a stream. Nothing is to be done where it is closed.
-pub fn write_to(stream: i32, text: &[u8], end: usize) {
-    io::write_all(stream, parts::front(text, end));
+// Writes all the bytes to a stream. Nothing is to be done where it is closed.
+pub fn write_all<W: Write>(stream: &mut W, bytes: &[u8]) {
+    match stream.write_all(bytes) {
+        Ok(()) => {}
+        Err(_) => {}
+    }
+}
+
+// Writes the text up to a place to a stream.
+pub fn write_to<W: Write>(stream: &mut W, text: &[u8], end: usize) {
+    write_all(stream, parts::front(text, end));
 }
 
 // To standard output.
-pub fn write(text: &[u8], end: usize) {
-    write_to(STDOUT_FILENO, text, end);
+pub fn write(output: Stdout, text: &[u8], end: usize) {
+    let mut output = output;
+    write_to(&mut output, text, end);
 }
 
 // Writes the text up to a place, and a line end.
-pub fn say(text: &mut [u8], at: usize)
+pub fn say(output: Stdout, text: &mut [u8], at: usize)
     ensures { text.new ≡ written text.old at line_end }
 {
     let end = text::put_byte(text, at, b'\n');
-    write(text, end);
+    write(output, text, end);
 }
 
 // Writes the text out to a stream where half of it is used; the place where the next line goes.
-pub fn make_room(stream: i32, text: &[u8], at: usize) -> usize
+pub fn make_room<W: Write>(stream: &mut W, text: &[u8], at: usize) -> usize
     ensures { result ≡ place_in (length text.now) at }
 {
     if at < text.len() / 2 {

@@ -9,9 +9,11 @@ use answers::Bench;
 use console::{Input, Unread};
 use course::Served;
 use languages::Language;
+use std::io::{Stdin, Stdout};
 
 // One line's answer is written.
 fn serve(
+    output: Stdout,
     language: Language,
     line: &[u8],
     bench: Bench,
@@ -26,7 +28,7 @@ fn serve(
     let end = answered.end;
     let next = answered.bench;
     if 0 < end {
-        console::say(text, end);
+        console::say(output, text, end);
         return Served {
             bench: next,
             over: over,
@@ -40,6 +42,7 @@ fn serve(
 
 // The line of so many bytes at the front of the buffer.
 fn serve_front(
+    output: Stdout,
     language: Language,
     line: &[u8],
     held: usize,
@@ -51,11 +54,13 @@ fn serve_front(
     ensures { ServedMeets language (take held line.now) bench memory.old text.old
         result memory.new text.new }
 {
-    serve(language, &line[..held], bench, memory, text)
+    serve(output, language, &line[..held], bench, memory, text)
 }
 
 // Line after line from what is unread of the source on, to `quit` or the end of the input. The budget of lines is never used up.
 fn run(
+    input: Stdin,
+    output: Stdout,
     language: Language,
     source: &mut [u8],
     start: Unread,
@@ -72,19 +77,19 @@ fn run(
     let mut budget: u64 = 0xFFFFFFFFFFFFFFFF;
     while 0 < budget {
         budget -= 1;
-        let taken = console::next_line(source, unread, line);
+        let taken = console::next_line(input, source, unread, line);
         unread = taken.unread;
-        let input = taken.input;
-        match input {
+        let came = taken.input;
+        match came {
             Input::Line(held) => {
-                let served = serve_front(language, line, held, bench, memory, text);
+                let served = serve_front(output, language, line, held, bench, memory, text);
                 bench = served.bench;
                 if served.over {
                     return bench;
                 }
             }
             Input::Last(held) => {
-                let served = serve_front(language, line, held, bench, memory, text);
+                let served = serve_front(output, language, line, held, bench, memory, text);
                 return served.bench;
             }
         }
@@ -93,13 +98,15 @@ fn run(
 }
 
 // The lines of standard input, each answered before the next is read.
-pub fn hold(language: Language) {
+pub fn hold(input: Stdin, output: Stdout, language: Language) {
     let mut source = [0u8; 65536];
     let mut line = [0u8; 4097];
     let mut text = [0u8; 4096];
     let mut memory = [0u8; 65552];
     let nothing = Unread { at: 0, end: 0 };
     run(
+        input,
+        output,
         language,
         &mut source,
         nothing,

@@ -15,20 +15,21 @@ ghost use Rattle.gateway.specs.Visiting.{LineMeets, Shows, VisitMeets};
 ghost use Rattle.gateway.specs.Gateway.{asked_by, AskedMeets, unclear_line};
 ghost use Rattle.gateway.specs.GatewayMirror.{GatewayMeets, HeldMeets, ResultMeets};
 
-use console::{Input, Unread};
-use libc::STDERR_FILENO;
+use console::{Input, Unread, arguments};
 use reply_lines::{ReplyLine, TableAsked};
+use std::env::Env;
+use std::io::{Stderr, Stdin, Stdout};
 use visit::{Handed, Next, Started, Visit};
 
 // The packet that the visit sends now, if it is not over.
-fn send(visit: Visit, packet: &mut [u8])
+fn send(output: Stdout, visit: Visit, packet: &mut [u8])
     ensures { packet.new ≡ laid packet.old (packet_line visit) }
 {
     let next = visit::next_packet(visit);
     match next {
         Next::Send(word) => {
             let end = visit_text::put_packet(packet, word);
-            console::say(packet, end);
+            console::say(output, packet, end);
         }
         Next::EndsAsRead => {}
         Next::EndsNotRead(_, _) => {}
@@ -36,31 +37,46 @@ fn send(visit: Visit, packet: &mut [u8])
 }
 
 // An empty line and a comment are no answers, and no packet follows them.
-fn take_line(visit: Visit, line: &[u8], notes: &mut [u64], packet: &mut [u8]) -> Visit
+fn take_line(
+    output: Stdout,
+    visit: Visit,
+    line: &[u8],
+    notes: &mut [u64],
+    packet: &mut [u8],
+) -> Visit
     ensures { LineMeets line.now visit notes.old packet.old result notes.new packet.new }
 {
     match reply_lines::read_line(line) {
         ReplyLine::Nothing => visit,
         ReplyLine::Reply(word) => {
             let after = visit::take_reply(visit, word, notes);
-            send(after, packet);
+            send(output, after, packet);
             after
         }
         ReplyLine::NoReply => visit::lose(visit),
     }
 }
 
-fn take_front(visit: Visit, line: &[u8], held: usize, notes: &mut [u64], packet: &mut [u8]) -> Visit
+fn take_front(
+    output: Stdout,
+    visit: Visit,
+    line: &[u8],
+    held: usize,
+    notes: &mut [u64],
+    packet: &mut [u8],
+) -> Visit
     requires { held ≤ length line.now }
     ensures { LineMeets (take held line.now) visit notes.old packet.old
         result notes.new packet.new }
 {
-    take_line(visit, &line[..held], notes, packet)
+    take_line(output, visit, &line[..held], notes, packet)
 }
 
 // Line after line from what is unread of the source on, until the visit is over: answers are awaited only where the first packet has gone out. The budget of
 // lines is never used up.
 fn take_lines(
+    input: Stdin,
+    output: Stdout,
     start: Visit,
     first: Unread,
     notes: &mut [u64],
@@ -82,15 +98,15 @@ fn take_lines(
         if visit::is_over(stage) {
             return visit;
         }
-        let taken = console::next_line(source, unread, line);
+        let taken = console::next_line(input, source, unread, line);
         unread = taken.unread;
-        let input = taken.input;
-        match input {
+        let came = taken.input;
+        match came {
             Input::Line(held) => {
-                visit = take_front(visit, line, held, notes, packet);
+                visit = take_front(output, visit, line, held, notes, packet);
             }
             Input::Last(held) => {
-                let last = take_front(visit, line, held, notes, packet);
+                let last = take_front(output, visit, line, held, notes, packet);
                 return visit::lose(last);
             }
         }
@@ -98,64 +114,71 @@ fn take_lines(
     visit::lose(visit)
 }
 
-fn add_result(visit: Visit, notes: &[u64], j: u32, text: &mut [u8], at: usize) -> usize
+fn add_result(
+    errors: &mut Stderr,
+    visit: Visit,
+    notes: &[u64],
+    j: u32,
+    text: &mut [u8],
+    at: usize,
+) -> usize
     ensures { ResultMeets visit.address j (handed_over visit notes.now j) text.old at text.new result }
 {
     let handed = visit::hand_over(visit, notes, j);
     match handed {
         Handed::Given(outcome) => {
-            let from = console::make_room(STDERR_FILENO, text, at);
+            let from = console::make_room(errors, text, at);
             visit_text::put_result(text, from, visit.address, j, outcome)
         }
         Handed::Nothing => at,
     }
 }
 
-fn add_read(visit: Visit, text: &mut [u8], at: usize) -> usize
+fn add_read(errors: &mut Stderr, visit: Visit, text: &mut [u8], at: usize) -> usize
     ensures { Puts text.old (place_in (length text.old) at) (read_line visit) text.new result }
 {
-    let from = console::make_room(STDERR_FILENO, text, at);
+    let from = console::make_room(errors, text, at);
     let end = visit_text::put_read(text, from, visit.packets);
     text::put_byte(text, end, b'\n')
 }
 
 // What was read, and how many packets it took.
-fn tell_results(visit: Visit, notes: &[u64], text: &mut [u8])
+fn tell_results(errors: &mut Stderr, visit: Visit, notes: &[u64], text: &mut [u8])
     ensures { text.new ≡ laid text.old (read_parts (length text.old) visit notes.now) }
 {
     let mut at = 0usize;
     let mut j = 0u32;
     while j < visit.ends {
-        at = add_result(visit, notes, j, text, at);
+        at = add_result(errors, visit, notes, j, text, at);
         j += 1;
     }
-    let end = add_read(visit, text, at);
-    console::write_to(STDERR_FILENO, text, end);
+    let end = add_read(errors, visit, text, at);
+    console::write_to(errors, text, end);
 }
 
 // What the visit came to.
-fn tell_end(visit: Visit, notes: &[u64], text: &mut [u8])
+fn tell_end(errors: &mut Stderr, visit: Visit, notes: &[u64], text: &mut [u8])
     ensures { text.new ≡ laid text.old (end_parts (length text.old) visit notes.now) }
 {
     let next = visit::next_packet(visit);
     match next {
         // A visit that is over sends no packet.
         Next::Send(_) => {}
-        Next::EndsAsRead => tell_results(visit, notes, text),
+        Next::EndsAsRead => tell_results(errors, visit, notes, text),
         Next::EndsNotRead(packet, reason) => {
             let end = visit_text::put_not_read(text, packet, reason);
             let end = text::put_byte(text, end, b'\n');
-            console::write_to(STDERR_FILENO, text, end);
+            console::write_to(errors, text, end);
         }
     }
 }
 
-fn tell_unclear(text: &mut [u8])
+fn tell_unclear(errors: &mut Stderr, text: &mut [u8])
     ensures { text.new ≡ written text.old 0 unclear_line }
 {
     let end = refusal_text::put_unclear(text);
     let end = text::put_byte(text, end, b'\n');
-    console::write_to(STDERR_FILENO, text, end);
+    console::write_to(errors, text, end);
 }
 
 // What so many words ask, the program's name among them, of which two are these.
@@ -172,54 +195,96 @@ fn asked_by(count: usize, address: &[u8], longwords: &[u8]) -> TableAsked
 }
 
 // No word is longer than Linux lets one be, 131,071 bytes.
-fn read_asked() -> TableAsked
+fn read_asked<R: Env>(rt: &R) -> TableAsked
     ensures { AskedMeets result }
 {
     let mut address = [0u8; 131072];
     let mut longwords = [0u8; 131072];
-    let address_end = os::arg(1, &mut address);
-    let longwords_end = os::arg(2, &mut longwords);
+    let address_end = arguments::word(rt, 1, &mut address);
+    let longwords_end = arguments::word(rt, 2, &mut longwords);
     asked_by(
-        os::arg_count(),
+        arguments::count(rt),
         &address[..address_end],
         &longwords[..longwords_end],
     )
 }
 
 // A visit from its first packet to its end, and then what it came to.
-fn hold_visit(start: Visit, notes: &mut [u64], packet: &mut [u8], text: &mut [u8])
+fn hold_visit(
+    input: Stdin,
+    output: Stdout,
+    errors: &mut Stderr,
+    start: Visit,
+    notes: &mut [u64],
+    packet: &mut [u8],
+    text: &mut [u8],
+)
     ensures { HeldMeets start notes.old packet.old text.old packet.new text.new }
 {
     let mut source = [0u8; 65536];
     let mut line = [0u8; 4097];
     let nothing = Unread { at: 0, end: 0 };
-    send(start, packet);
-    let over = take_lines(start, nothing, notes, &mut source, &mut line, packet);
-    tell_end(over, notes, text);
+    send(output, start, packet);
+    let over = take_lines(
+        input,
+        output,
+        start,
+        nothing,
+        notes,
+        &mut source,
+        &mut line,
+        packet,
+    );
+    tell_end(errors, over, notes, text);
 }
 
-fn visit_gateway(address: u32, longwords: u32, packet: &mut [u8], text: &mut [u8])
+fn visit_gateway(
+    input: Stdin,
+    output: Stdout,
+    errors: &mut Stderr,
+    address: u32,
+    longwords: u32,
+    packet: &mut [u8],
+    text: &mut [u8],
+)
     ensures { GatewayMeets (Table address longwords) packet.old text.old packet.new text.new }
 {
     let mut notes = [0u64; 65563];
     let started = visit::start(address, longwords, &notes);
     match started {
-        Started::Refused(_) => tell_unclear(text),
-        Started::Begun(start) => hold_visit(start, &mut notes, packet, text),
+        Started::Refused(_) => tell_unclear(errors, text),
+        Started::Begun(start) => hold_visit(input, output, errors, start, &mut notes, packet, text),
     }
 }
 
-fn answer(asked: TableAsked, packet: &mut [u8], text: &mut [u8])
+fn answer(
+    input: Stdin,
+    output: Stdout,
+    errors: &mut Stderr,
+    asked: TableAsked,
+    packet: &mut [u8],
+    text: &mut [u8],
+)
     ensures { GatewayMeets asked packet.old text.old packet.new text.new }
 {
     match asked {
-        TableAsked::Unclear => tell_unclear(text),
-        TableAsked::Table(address, longwords) => visit_gateway(address, longwords, packet, text),
+        TableAsked::Unclear => tell_unclear(errors, text),
+        TableAsked::Table(address, longwords) => visit_gateway(
+            input, output, errors, address, longwords, packet, text,
+        ),
     }
 }
 
-fn main() {
+fn main(rt: HostRuntime) {
     let mut packet = [0u8; 16];
     let mut text = [0u8; 65536];
-    answer(read_asked(), &mut packet, &mut text);
+    let mut errors = rt.stderr();
+    answer(
+        rt.stdin(),
+        rt.stdout(),
+        &mut errors,
+        read_asked(&rt),
+        &mut packet,
+        &mut text,
+    );
 }

@@ -78,7 +78,7 @@ fn check_later(before: Checked, memory: &mut [u8], page: &mut [u8]) -> Checked
 
 // P1 to P8, one bench for all.
 fn check_boards(memory: &mut [u8], page: &mut [u8]) -> Checked
-    ensures { PagedSo 1 (checksOf boards (left first memory.old)) (unjudged first) page.old result page.new }
+    ensures { PagedSo 1 (checks_of boards (left first memory.old)) (unjudged first) page.old result page.new }
 {
     let bench = answers::opened();
     let none = Checked {
@@ -175,9 +175,9 @@ fn check_all(memory: &mut [u8], page: &mut [u8]) -> usize
     put_verdict(page, judged.end, judged.bad)
 }
 
-fn main() {
+fn main(rt: HostRuntime) {
     let mut memory = [0u8; 65552];
     let mut page = [0u8; 65536];
     let end = check_all(&mut memory, &mut page);
-    console::write(&page, end);
+    console::write(rt.stdout(), &page, end);
 }

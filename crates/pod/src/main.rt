@@ -3,6 +3,6 @@
 
 use languages::Language;
 
-fn main() {
-    conversation::hold(Language::Pod);
+fn main(rt: HostRuntime) {
+    conversation::hold(rt.stdin(), rt.stdout(), Language::Pod);
 }

@@ -3,6 +3,6 @@
 
 use languages::Language;
 
-fn main() {
-    conversation::hold(Language::Talk);
+fn main(rt: HostRuntime) {
+    conversation::hold(rt.stdin(), rt.stdout(), Language::Talk);
 }

@@ -18,10 +18,12 @@ ghost use Rattle.trace_list.specs.Asked.{AskedMeets};
 ghost use Rattle.trace_list.specs.declared.asked.Asked.TheVariants.{Whole, From};
 
 use asked::Asked;
+use console::arguments;
 use cycle::Item;
 use grounds::Ground;
-use libc::{STDIN_FILENO, STDOUT_FILENO};
 use refusal_text::{put_refusal_at, put_unclear};
+use std::env::Env;
+use std::io::{Stdin, Stdout};
 use steps::{Cursor, Handed};
 use summary::page;
 use text::listing::{put_head, put_item};
@@ -36,30 +38,31 @@ fn word_of(item: Item) -> u32
 }
 
 // One more item's line; the place after it.
-fn add_item(text: &mut [u8], at: usize, word: u32, value: u32) -> usize
+fn add_item(output: Stdout, text: &mut [u8], at: usize, word: u32, value: u32) -> usize
     ensures { Puts text.old (place_in (length text.old) at) (item_line word value) text.new result }
 {
-    let from = console::make_room(STDOUT_FILENO, text, at);
+    let mut output = output;
+    let from = console::make_room(&mut output, text, at);
     let end = put_item(text, from, word, value);
     text::put_byte(text, end, b'\n')
 }
 
 // The items' lines, gathered in the text and written out in large parts.
-fn write_items(words: &[u32], text: &mut [u8])
+fn write_items(output: Stdout, words: &[u32], text: &mut [u8])
     ensures { text.new ≡ laid text.old (parts (length text.old) (item_lines words.now)) }
 {
     let mut at = 0usize;
     let items = words.len() / 2;
     let mut k = 0usize;
     while k < items {
-        at = add_item(text, at, words[2 * k], words[2 * k + 1]);
+        at = add_item(output, text, at, words[2 * k], words[2 * k + 1]);
         k += 1;
     }
-    console::write(text, at);
+    console::write(output, text, at);
 }
 
 // The lines of the items that a walk hands out, one a step, until it hands out none.
-fn write_walk(trace: &[u8], start: Cursor, text: &mut [u8])
+fn write_walk(output: Stdout, trace: &[u8], start: Cursor, text: &mut [u8])
     requires trace_fits { length trace.now ≤ 65537 }
     requires start_meets { StartMeets trace.now start × GoodStart start.start }
     ensures { text.new
@@ -73,45 +76,45 @@ fn write_walk(trace: &[u8], start: Cursor, text: &mut [u8])
         let Handed::Item(item) = handed else {
             break;
         };
-        at = add_item(text, at, word_of(item), item.value);
+        at = add_item(output, text, at, word_of(item), item.value);
         cursor = step.cursor;
     }
-    console::write(text, at);
+    console::write(output, text, at);
 }
 
-fn say_refusal(why: Ground, cycle: usize, text: &mut [u8])
+fn say_refusal(output: Stdout, why: Ground, cycle: usize, text: &mut [u8])
     ensures { text.new ≡ written text.old 0 (refused_line (number why) cycle) }
 {
     let end = put_refusal_at(text, why, cycle);
-    console::say(text, end);
+    console::say(output, text, end);
 }
 
-fn say_head(cycles: usize, items: usize, text: &mut [u8])
+fn say_head(output: Stdout, cycles: usize, items: usize, text: &mut [u8])
     ensures { text.new ≡ written text.old 0 (head_line cycles items) }
 {
     let end = put_head(text, cycles, items);
-    console::say(text, end);
+    console::say(output, text, end);
 }
 
 // What a listing answered, and the items whose words it left.
-fn write_listing(listed: Listing, cycles: usize, words: &[u32], text: &mut [u8])
+fn write_listing(output: Stdout, listed: Listing, cycles: usize, words: &[u32], text: &mut [u8])
     ensures { text.new
         ≡ laid text.old (listed_parts (length text.old) cycles words.now listed) }
 {
     match listed {
-        Listing::Refused { ground, cycle } => say_refusal(ground, cycle, text),
+        Listing::Refused { ground, cycle } => say_refusal(output, ground, cycle, text),
         Listing::Items(items) => {
-            say_head(cycles, items, text);
+            say_head(output, cycles, items, text);
             let room = words.len() / 2;
             if items <= room {
-                write_items(&words[..2 * items], text);
+                write_items(output, &words[..2 * items], text);
             }
         }
     }
 }
 
 // The whole trace: how the walk's start was judged, and what its steps hand out.
-fn write_whole(trace: &[u8], text: &mut [u8])
+fn write_whole(output: Stdout, trace: &[u8], text: &mut [u8])
     requires { length trace.now ≤ 65537 }
     ensures { Bytes trace.now
         × (text.new ≡ laid text.old (whole_parts (length text.old) trace.now)) }
@@ -119,42 +122,49 @@ fn write_whole(trace: &[u8], text: &mut [u8])
     let start = walk::start_cursor(trace);
     let judged = start.start;
     match judged {
-        Listing::Refused { ground, cycle } => say_refusal(ground, cycle, text),
+        Listing::Refused { ground, cycle } => say_refusal(output, ground, cycle, text),
         Listing::Items(items) => {
-            say_head(trace.len(), items, text);
-            write_walk(trace, start, text);
+            say_head(output, trace.len(), items, text);
+            write_walk(output, trace, start, text);
         }
     }
 }
 
-fn say_unclear(text: &mut [u8])
+fn say_unclear(output: Stdout, text: &mut [u8])
     ensures { text.new ≡ written text.old 0 unclear_line }
 {
     let end = put_unclear(text);
-    console::say(text, end);
+    console::say(output, text, end);
 }
 
 // The listing from a cycle on, by its entry in the index. A cycle without one is unclear.
-fn write_from(trace: &[u8], from: usize, index: &[u32], words: &mut [u32], text: &mut [u8])
+fn write_from(
+    output: Stdout,
+    trace: &[u8],
+    from: usize,
+    index: &[u32],
+    words: &mut [u32],
+    text: &mut [u8],
+)
     ensures { text.new ≡ laid text.old
         (from_parts (length text.old) trace.now from index.now (length words.old)) }
 {
     let place = from / 256;
     if trace.len() <= from {
-        say_unclear(text);
+        say_unclear(output, text);
         return;
     }
     if index.len() <= place {
-        say_unclear(text);
+        say_unclear(output, text);
         return;
     }
     let entry = index::read_entry(from, index[place]);
     let listed = index::list_from(trace, entry, words);
-    write_listing(listed, trace.len(), words, text);
+    write_listing(output, listed, trace.len(), words, text);
 }
 
 // The whole trace is judged before FROM is looked up.
-fn list_from(trace: &[u8], from: usize, words: &mut [u32], text: &mut [u8])
+fn list_from(output: Stdout, trace: &[u8], from: usize, words: &mut [u32], text: &mut [u8])
     ensures { Bytes trace.now × (text.new ≡ laid text.old
         (rest_parts (length text.old) trace.now from (length words.old))) }
 {
@@ -162,44 +172,44 @@ fn list_from(trace: &[u8], from: usize, words: &mut [u32], text: &mut [u8])
     let page = page::make_page(trace, &mut index);
     let judged = page.judged;
     match judged {
-        Listing::Refused { ground, cycle } => say_refusal(ground, cycle, text),
-        Listing::Items(_) => write_from(trace, from, &index, words, text),
+        Listing::Refused { ground, cycle } => say_refusal(output, ground, cycle, text),
+        Listing::Items(_) => write_from(output, trace, from, &index, words, text),
     }
 }
 
-fn list_whole(text: &mut [u8])
+fn list_whole(input: Stdin, output: Stdout, text: &mut [u8])
     ensures { ShownMeets Whole text.old text.new }
 {
     let mut trace = [0u8; 65537];
-    let cycles = io::read_full(STDIN_FILENO, &mut trace);
-    write_whole(&trace[..cycles], text);
+    let cycles = console::read_full(input, &mut trace);
+    write_whole(output, &trace[..cycles], text);
 }
 
 // A buffer of four words a cycle is never too short.
-fn list_rest(from: usize, text: &mut [u8])
+fn list_rest(input: Stdin, output: Stdout, from: usize, text: &mut [u8])
     ensures { ShownMeets (From from) text.old text.new }
 {
     let mut trace = [0u8; 65537];
     let mut words = [0u32; 262144];
-    let cycles = io::read_full(STDIN_FILENO, &mut trace);
-    list_from(&trace[..cycles], from, &mut words, text);
+    let cycles = console::read_full(input, &mut trace);
+    list_from(output, &trace[..cycles], from, &mut words, text);
 }
 
-fn answer(asked: Asked, text: &mut [u8])
+fn answer(input: Stdin, output: Stdout, asked: Asked, text: &mut [u8])
     ensures { ShownMeets asked text.old text.new }
 {
     match asked {
-        Asked::Unclear => say_unclear(text),
-        Asked::Whole => list_whole(text),
-        Asked::From(from) => list_rest(from as usize, text),
+        Asked::Unclear => say_unclear(output, text),
+        Asked::Whole => list_whole(input, output, text),
+        Asked::From(from) => list_rest(input, output, from as usize, text),
     }
 }
 
 // What the words behind the program's name ask. No word is longer than Linux lets one be, 131,071 bytes.
-fn read_asked() -> Asked
+fn read_asked<R: Env>(rt: &R) -> Asked
     ensures { AskedMeets result }
 {
-    let count = os::arg_count();
+    let count = arguments::count(rt);
     if count < 2 {
         return Asked::Whole;
     }
@@ -207,11 +217,11 @@ fn read_asked() -> Asked
         return Asked::Unclear;
     }
     let mut word = [0u8; 131072];
-    let end = os::arg(1, &mut word);
+    let end = arguments::word(rt, 1, &mut word);
     asked::read_from(&word[..end])
 }
 
-fn main() {
+fn main(rt: HostRuntime) {
     let mut text = [0u8; 16384];
-    answer(read_asked(), &mut text);
+    answer(rt.stdin(), rt.stdout(), read_asked(&rt), &mut text);
 }

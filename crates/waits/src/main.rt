@@ -1,17 +1,15 @@
 // Prints the page of the file on standard input: its requests at every W.
 #![tactic(auto)]
 
-use libc::STDIN_FILENO;
-
 // The buffers are never too short (waits_laws' WaitsRoomLaws).
-fn main() {
+fn main(rt: HostRuntime) {
     let mut input = [0u8; 16385];
     let mut due_memory = [0u8; 65552];
     let mut memory = [0u8; 65552];
     let mut due = [0u8; 327680];
     let mut text = [0u8; 327680];
     let mut page = [0u8; 331776];
-    let count = io::read_full(STDIN_FILENO, &mut input);
+    let count = console::read_full(rt.stdin(), &mut input);
     let end = waits_page::put_page(
         &mut page,
         &input[..count],
@@ -20,5 +18,5 @@ fn main() {
         &mut memory,
         &mut text,
     );
-    console::write(&page, end);
+    console::write(rt.stdout(), &page, end);
 }

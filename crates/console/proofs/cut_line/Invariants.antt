@@ -11,7 +11,7 @@ use borrow.Author.Rules.{rules}
 use Rattle.console.proofs.cut_line.Given as goal
 
 abbrev pub invariant-loop-i : goal.invariant-loop-i
-invariant-loop-i l =     (l.i ≤ length l.bytes)
+invariant-loop-i l = (l.i ≤ length l.bytes)
     × (length l.line ≡ length l.initial.line)
     × (l.held ≤ length l.line)
     × (has_ended l.bytes ≡ has_ended (drop l.i l.bytes))

@@ -9,13 +9,13 @@ use Rattle.console.proofs.next_line.Goals as goal
 
 pub overflow_add-result : goal.overflow_add-result
 overflow_add-result c = omega (
-      arith,
-      taken_within c.args.source.now c.least-at.result
-          c.least-end.result
-          c.cut_line-first.ensures,
-      c.least-end.ensures,
-      c.least-at.ensures,
-    )
+  arith,
+  taken_within c.args.source.now c.least-at.result
+      c.least-end.result
+      c.cut_line-first.ensures,
+  c.least-end.ensures,
+  c.least-at.ensures,
+)
 
 pub returns-then-first : goal.returns-then-first
 returns-then-first c = let start = c.args in

@@ -13,7 +13,7 @@ use Rattle.gateway.specs.GatewayLaws.{gathers_result}
 use Rattle.gateway.proofs.tell_results.Given as goal
 
 abbrev pub invariant-loop-j : goal.invariant-loop-j
-invariant-loop-j l =     (length l.text ≡ length l.initial.text) × (l.j ≤ l.visit.ends)
+invariant-loop-j l = (length l.text ≡ length l.initial.text) × (l.j ≤ l.visit.ends)
     × Gathering l.initial.text (result_lines l.visit.ends 0 l.visit l.notes ++ read_line l.visit ∷ []) l.text l.at (result_lines (l.visit.ends - l.j) l.j l.visit l.notes ++ read_line l.visit ∷ [])
 
 abbrev pub decreases-loop-j : goal.decreases-loop-j

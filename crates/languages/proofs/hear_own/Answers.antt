@@ -13,3 +13,7 @@ returns-in-Talk c = rw (c.in-Talk.is, c.read_talk_line.ensures)
 pub returns-in-Both : goal.returns-in-Both
 unfolding heard_own
 returns-in-Both c = rw (c.in-Both.is, c.read_either_line.ensures)
+
+pub returns-in-Pod : goal.returns-in-Pod
+unfolding heard_own
+returns-in-Pod c = rw c.in-Pod.is

@@ -14,7 +14,7 @@ use Rattle.walk.specs.WalkRestLaws.{rest, rest_falls}
 use Rattle.trace_list.proofs.write_walk.Given as goal
 
 abbrev pub invariant-loop-item : goal.invariant-loop-item
-invariant-loop-item l =     (length l.text ≡ length l.initial.text) × GoodStart l.cursor.start
+invariant-loop-item l = (length l.text ≡ length l.initial.text) × GoodStart l.cursor.start
     × Gathering l.initial.text (item_lines (words (items l.trace))) l.text l.at (item_lines (words (rest l.trace l.cursor)))
 
 abbrev pub decreases-loop-item : goal.decreases-loop-item

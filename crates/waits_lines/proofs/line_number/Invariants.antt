@@ -11,7 +11,7 @@ use borrow.Author.Rules.{rules}
 use Rattle.waits_lines.proofs.line_number.Given as goal
 
 abbrev pub invariant-loop-i : goal.invariant-loop-i
-invariant-loop-i l = (l.n ≤ l.i + 1) × (numbered l.n after-cr (drop l.i l.before) ≡ line_number l.before)
+invariant-loop-i l = (l.n ≤ l.i + 1) × (numbered l.n l.after_cr (drop l.i l.before) ≡ line_number l.before)
 
 abbrev pub decreases-loop-i : goal.decreases-loop-i
 decreases-loop-i l = length l.before - l.i

@@ -1,0 +1,5 @@
+use borrow.Author.Rules.{rules}
+use Rattle.script.proofs.answer.Goals as goal
+
+pub returns : goal.returns
+returns c = (rw (c.answer.ensures.memory, c.answer.ensures.bench), c.answer.ensures.text)

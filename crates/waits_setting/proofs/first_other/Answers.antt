@@ -1,0 +1,28 @@
+use Prim.Native.Nat.{◌+◌, ◌-◌}
+use mathlib.Core.Path.{◌≡◌}
+use native.Mathlib.Omega.{arith}
+use lib.ListN.{length, drop}
+use Rattle.waits_setting.specs.WaitsSetting.{first_other}
+use Rattle.waits_setting.specs.WaitsSettingLaws.{same_so_far, differs_here, due_ends, came_ends}
+use borrow.Author.Rules.{rules}
+use Rattle.waits_setting.proofs.first_other.Goals as goal
+
+pub loop-i-init : goal.loop-i-init
+loop-i-init c = omega arith
+
+pub returns-then-came-i : goal.returns-then-came-i
+returns-then-came-i c = let given = c.args in
+    omega (arith, came_ends given.due.now given.came.now c.loop-i.i c.loop-i-test.true c.if-came-i.true)
+
+pub returns-then-due-i : goal.returns-then-due-i
+returns-then-due-i c = let given = c.args in
+    let at = c.loop-i in
+    omega (arith, differs_here given.due.now given.came.now at.i c.loop-i-test.true c.if-came-i.false c.if-due-i.true)
+
+pub loop-i-preserved : goal.loop-i-preserved
+loop-i-preserved c = let given = c.args in
+    let at = c.loop-i in
+    omega (arith, same_so_far given.due.now given.came.now at.i c.loop-i-test.true c.if-came-i.false c.if-due-i.false)
+
+pub returns : goal.returns
+returns c = omega (arith, due_ends c.args.due.now c.args.came.now c.loop-i.i c.loop-i-test.false)

@@ -1,0 +1,14 @@
+use Prim.Native.Nat.{◌-◌}
+use mathlib.Core.Path.{◌≡◌, refl, sym, ◌∙◌}
+use lib.ListN.{length, drop}
+use Rattle.waits_setting.specs.WaitsSetting.{line_start}
+use Rattle.waits_setting.specs.WaitsSettingLaws.{start_on, start_out}
+use borrow.Author.Tests.{eq-eqb, ne_eqb}
+use borrow.Author.Rules.{rules}
+use Rattle.waits_setting.proofs.line_start.Given as goal
+
+abbrev pub invariant-loop-i : goal.invariant-loop-i
+invariant-loop-i l = line_start l.i l.start (drop l.i l.before) ≡ line_start 0 0 l.before
+
+abbrev pub decreases-loop-i : goal.decreases-loop-i
+decreases-loop-i l = length l.before - l.i
