@@ -18,11 +18,11 @@ returns-in-8192 c = entry _ (λ lower. commands.wdreg (lower % 16)) c.allow-in-8
 
 pub returns-in-6400 : goal.returns-in-6400
 unfolding under
-returns-in-6400 c = entry _ (λ lower. commands.read (size_in lower)) c.allow-in-6400.ensures c.in-6400.is refl (rw c.size_in.ensures) refl
+returns-in-6400 c = entry _ (λ lower. commands.read (size_in lower)) c.allow-in-6400.ensures c.in-6400.is refl (cc) refl
 
 pub returns-in-6144 : goal.returns-in-6144
 unfolding under
-returns-in-6144 c = entry _ (λ lower. commands.write (size_in lower)) c.allow-in-6144.ensures c.in-6144.is refl (rw c.size_in-in-6144.ensures) refl
+returns-in-6144 c = entry _ (λ lower. commands.write (size_in lower)) c.allow-in-6144.ensures c.in-6144.is refl (cc) refl
 
 pub returns-in-7424 : goal.returns-in-7424
 unfolding under
