@@ -2,6 +2,4 @@ pub mod EveryWait
 pub mod EveryWaitRun
 pub mod SettledLaws
 pub mod OneRequestLaws
-pub mod EveryWaitLaws
-pub mod EveryWaitRunLaws
 pub mod EveryWaitExamples

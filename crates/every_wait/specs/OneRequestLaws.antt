@@ -34,9 +34,9 @@ use Rattle.round_trip.specs.Meaning.{Scene}
 use Rattle.round_trip.specs.RoundTrip.{nops, resting, unchained, standing_in, legal_there, outcome_there, second_word, state_there, words_there}
 use Rattle.round_trip.specs.BroughtToRest.{rest_scene, rest_packets}
 use Rattle.round_trip.specs.PacketTakenLaws.{waits_none, due_none, due_more, scene_taken, command_taken, illegal_taken}
-use Rattle.round_trip.specs.NextRequestLaws.{run_keeps_sound}
-use Rattle.round_trip.specs.WholeRunLaws.{legal_run, illegal_run}
-use Rattle.round_trip.specs.EveryWLaws.{at_w, same_at_every_w}
+use Rattle.round_trip.proofs.NextRequestLaws.{run_keeps_sound}
+use Rattle.round_trip.proofs.WholeRunLaws.{legal_run, illegal_run}
+use Rattle.round_trip.proofs.EveryWLaws.{at_w, same_at_every_w}
 use Rattle.exchange_verdict.specs.ExchangeVerdict.{exchange_verdict}
 use Rattle.exchange.specs.Exchange.{exchange_leaves}
 use Rattle.exchange.specs.ExchangeLaws.{accepted_is_within}

@@ -32,7 +32,7 @@ use Rattle.round_trip.specs.Meaning.{Scene}
 use Rattle.round_trip.specs.RoundTrip.{scene_of}
 use Rattle.round_trip.specs.BroughtToRest.{rested, rest_budget, rest_scene}
 use Rattle.round_trip.specs.PacketTakenLaws.{waits_none, waits_more, due_none, due_more, work_under}
-use Rattle.round_trip.specs.EveryWLaws.{at_w}
+use Rattle.round_trip.proofs.EveryWLaws.{at_w}
 
 -- ---- the work, with another wait setting
 abbrev pub at_setting : ℕ → State → State

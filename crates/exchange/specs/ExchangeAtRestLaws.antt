@@ -18,9 +18,9 @@ use Rattle.requests.specs.Request.{data_in_range, in_range}
 use Rattle.round_trip.specs.Meaning.{Scene, meaning}
 use Rattle.round_trip.specs.RoundTrip.{resting, scene_of, legal_there, state_there, packets_there}
 use Rattle.round_trip.specs.BroughtToRest.{rest_budget, rest_scene, rest_packets}
-use Rattle.round_trip.specs.UnderwayLaws.{rest_stays}
-use Rattle.round_trip.specs.WriteReadLaws.{write_then_read}
-use Rattle.round_trip.specs.NextRequestLaws.{left_sound}
+use Rattle.round_trip.proofs.UnderwayLaws.{rest_stays}
+use Rattle.round_trip.proofs.WriteReadLaws.{write_then_read}
+use Rattle.round_trip.proofs.NextRequestLaws.{left_sound}
 use Rattle.exchange.specs.declared.Exchanged.TheVariants.{Ended}
 use Rattle.exchange.specs.declared.Returned.{Returned}
 use Rattle.exchange_verdict.specs.ExchangeVerdict.{exchange_verdict}

@@ -15,8 +15,8 @@ use Rattle.requests.specs.Request.{in_range}
 use Rattle.round_trip.specs.RoundTrip.{state_there}
 use Rattle.round_trip.specs.BroughtToRest.{rested, rest_budget, rest_scene, rest_packets}
 use Rattle.round_trip.specs.TalkMirror.{Talk, talk, exchanged}
-use Rattle.round_trip.specs.BroughtToRestLaws.{comes_to_rest, rest_keeps_sound, rest_nops_bound}
-use Rattle.round_trip.specs.TalkLaws.{exchange_from_anywhere, packets_bound}
+use Rattle.round_trip.proofs.BroughtToRestLaws.{comes_to_rest, rest_keeps_sound, rest_nops_bound}
+use Rattle.round_trip.proofs.TalkLaws.{exchange_from_anywhere, packets_bound}
 use Rattle.exchange_verdict.specs.ExchangeVerdict.{exchange_verdict}
 use Rattle.exchange.specs.Exchange.{ended_there}
 use Rattle.exchange.specs.ExchangeMirror.{answer_of}

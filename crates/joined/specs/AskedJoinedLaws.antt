@@ -16,7 +16,7 @@ use Rattle.requests.specs.declared.Request.TheVariants.{Read, Dump}
 use Rattle.round_trip.specs.Meaning.{Scene, meaning, reads}
 use Rattle.round_trip.specs.RoundTrip.{resting, scene_of, unchained, legal_there, outcome_there, second_word, state_there}
 use Rattle.round_trip.specs.PacketTakenLaws.{nop_at_rest}
-use Rattle.round_trip.specs.NextRequestLaws.{left_sound}
+use Rattle.round_trip.proofs.NextRequestLaws.{left_sound}
 use Rattle.asked.specs.VisitRequests.{registers_asked, begins, request_at, in_table}
 use Rattle.asked.specs.RequestAtLaws.{each_asked, asked_in_range}
 use Rattle.visit.specs.Visit.{is_illegal, is_bus_error, notable}

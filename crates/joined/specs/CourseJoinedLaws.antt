@@ -18,7 +18,7 @@ use Rattle.visit.specs.Visit.{after_marker, is_illegal, note_of}
 use Rattle.round_trip.specs.Meaning.{Scene}
 use Rattle.round_trip.specs.RoundTrip.{resting, unchained, outcome_there, packets_there}
 use Rattle.round_trip.specs.BroughtToRest.{rested, rest_scene}
-use Rattle.round_trip.specs.TalkLaws.{packets_bound}
+use Rattle.round_trip.proofs.TalkLaws.{packets_bound}
 use Rattle.visit_course.specs.VisitCourse.{Course, nothing_more, behind_marker, behind, noting, leaves_there, ends_table, course_from}
 use Rattle.joined.specs.Joined.{Joined, joined}
 use Rattle.joined.specs.JoinedLaws.{joined_more, joined_none, visit_at, meeting, closed_at, last_counted}

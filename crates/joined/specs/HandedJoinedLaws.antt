@@ -22,8 +22,8 @@ use Rattle.visit.specs.VisitLaws.{table_whole, Narrow, note_read_back}
 use Rattle.round_trip.specs.Meaning.{Scene, meaning, reads}
 use Rattle.round_trip.specs.RoundTrip.{resting, unchained, legal_there, outcome_there}
 use Rattle.round_trip.specs.BroughtToRest.{rest_budget, rest_scene}
-use Rattle.round_trip.specs.BroughtToRestLaws.{rest_keeps_sound}
-use Rattle.round_trip.specs.MeantWorkLaws.{csr_fits}
+use Rattle.round_trip.proofs.BroughtToRestLaws.{rest_keeps_sound}
+use Rattle.round_trip.proofs.MeantWorkLaws.{csr_fits}
 use Rattle.visit_course.specs.VisitCourse.{leaves_there, ends_table, course_from, course_of}
 use Rattle.visit_course.specs.TableRead.{longwords_there, longwords_asked}
 use Rattle.visit_course.specs.TableReadLaws.{TableIs, table_holds}

@@ -23,8 +23,8 @@ use Rattle.round_trip.specs.Meaning.{Scene}
 use Rattle.round_trip.specs.RoundTrip.{nops, resting, unchained, standing_in}
 use Rattle.round_trip.specs.BroughtToRest.{rested, rest_budget, rest_scene, rest_packets}
 use Rattle.round_trip.specs.PacketTakenLaws.{nop_at_rest, illegal_taken}
-use Rattle.round_trip.specs.BroughtToRestLaws.{comes_to_rest, rest_nops_bound, rest_packets_are_nops, rest_is_resting}
-use Rattle.round_trip.specs.NextRequestLaws.{ran_append}
+use Rattle.round_trip.proofs.BroughtToRestLaws.{comes_to_rest, rest_nops_bound, rest_packets_are_nops, rest_is_resting}
+use Rattle.round_trip.proofs.NextRequestLaws.{ran_append}
 use Rattle.joined.specs.Joined.{Joined, onward, joined}
 use Rattle.joined.specs.JoinedLaws.{joined_more, joined_on, joined_none, visit_at, meeting, last_counted, reply_within, mark_on, mark_last}
 

@@ -21,8 +21,8 @@ use Rattle.readings.specs.Reader.{after_reply, done}
 use Rattle.round_trip.specs.Meaning.{Scene}
 use Rattle.round_trip.specs.RoundTrip.{resting, outcome_there, state_there, packets_there}
 use Rattle.round_trip.specs.TalkMirror.{Talk, talk, talked, talk_budget, exchanged}
-use Rattle.round_trip.specs.MeantWorkLaws.{sound_is_sized}
-use Rattle.round_trip.specs.TalkLaws.{talk_there, exchange_from_rest}
+use Rattle.round_trip.proofs.MeantWorkLaws.{sound_is_sized}
+use Rattle.round_trip.proofs.TalkLaws.{talk_there, exchange_from_rest}
 use Rattle.asked.specs.VisitRequests.{request_at}
 use Rattle.visit.specs.declared.Stage.TheVariants.{Asking}
 use Rattle.visit.specs.Visit.{patience, note_of, notable}

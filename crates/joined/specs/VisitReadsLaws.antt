@@ -14,7 +14,7 @@ use Rattle.visit.specs.VisitLaws.{table_bound}
 use Rattle.round_trip.specs.Meaning.{Scene}
 use Rattle.round_trip.specs.RoundTrip.{resting, unchained, outcome_there}
 use Rattle.round_trip.specs.BroughtToRest.{rest_budget, rest_scene}
-use Rattle.round_trip.specs.BroughtToRestLaws.{rest_keeps_sound}
+use Rattle.round_trip.proofs.BroughtToRestLaws.{rest_keeps_sound}
 use Rattle.visit_course.specs.VisitCourse.{leaves_there, ends_table, course_from, course_of}
 use Rattle.joined.specs.Joined.{Joined, joined}
 use Rattle.joined.specs.VisitReads.{starts_at, VisitReads}

@@ -32,7 +32,7 @@ use Rattle.sound.specs.SoundPlanLaws.{PlanWithin, plan_within}
 use Rattle.round_trip.specs.Meaning.{Scene}
 use Rattle.round_trip.specs.RoundTrip.{scene_of}
 use Rattle.round_trip.specs.ClosesLaws.{Fits}
-use Rattle.round_trip.specs.MeantWorkLaws.{word_cleared, work_ending, Sized, sound_is_sized, load_meant, store_meant, read_control_meant, csr_fits}
+use Rattle.round_trip.proofs.MeantWorkLaws.{word_cleared, work_ending, Sized, sound_is_sized, load_meant, store_meant, read_control_meant, csr_fits}
 
 -- ---- the work's first reply is data, "complete" or a bus error
 fits_no_illegal : (kind : ResultKind) (e : Ending) → Fits kind e → first_reply e ≤ bus_error

@@ -9,7 +9,7 @@ use Rattle.trace.specs.declared.Listing.TheVariants.{Items, Refused}
 use Rattle.trace.specs.Items.{items, words}
 use Rattle.trace.specs.ItemLaws.{length_words}
 use Rattle.trace.specs.TraceReading.{counted, told_listing}
-use Rattle.trace.specs.TraceReadingLaws.{read_count}
+use Rattle.trace.proofs.TraceReadingLaws.{read_count}
 use Rattle.listing.specs.Listing.{listing, words_after, ListingMeets}
 use Rattle.listing.specs.ListingLaws.{listed_read}
 use Rattle.text.specs.Text.{ascii}

@@ -7,7 +7,7 @@ use Rattle.trace.specs.declared.Listing.{Listing}
 use Rattle.trace.specs.Items.{items, items_to_end}
 use Rattle.trace.specs.ItemsFromLaws.{items_whole}
 use Rattle.trace.specs.TraceReading.{refusal, counted, told_listing, too_short, reading, reading_from}
-use Rattle.trace.specs.TraceReadingLaws.{refused_so, passed_so, same_count, passed_read}
+use Rattle.trace.proofs.TraceReadingLaws.{refused_so, passed_so, same_count, passed_read}
 use Rattle.listing.specs.Listing.{listing, listing_from, words_over, ListingMeets, ListingFromMeets}
 
 -- a trace that is refused without a buffer is refused so with any

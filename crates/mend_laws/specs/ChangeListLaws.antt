@@ -6,7 +6,7 @@ use mathlib.Core.List.Memᴰ
 use mathlib.Core.List.{List, [], ◌∷◌, ◌++◌, append-nil, Memᴰ}
 use Rattle.laws.specs.TestLaws.{by_test}
 use Rattle.cycle.specs.Cycle.{pst, ddata, marker, reserved, too_soon}
-use Rattle.trace.specs.TraceReadableLaws.{Readable}
+use Rattle.trace.proofs.TraceReadableLaws.{Readable}
 use Rattle.mending.specs.Mending.{kept, found, cut_short, mended_pst, mended, change_word, changes_before, changes}
 use Rattle.mending.specs.MendingLaws.{KeptOrWiped, same, wiped, kept_or_wiped, mended_or_wiped, elsewhere, cut_none, cut_announced}
 use Rattle.mend_laws.specs.RetoldLaws.{retold_byte, retold_pst, retold_ddata, retold_same}

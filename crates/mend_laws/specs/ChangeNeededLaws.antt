@@ -5,7 +5,7 @@ use Rattle.std.proofs.lemmas.Bool.{eqb-false}
 use Rattle.laws.specs.TestLaws.{by_test}
 use Rattle.cycle.specs.Cycle.{pst, reserved, too_soon, carried_into}
 use Rattle.trace.specs.TraceReading.{refusal, reading}
-use Rattle.trace.specs.TraceReadableLaws.{Passes, refused_reserved, refused_too_soon, refused_cut}
+use Rattle.trace.proofs.TraceReadableLaws.{Passes, refused_reserved, refused_too_soon, refused_cut}
 use Rattle.mending.specs.Mending.{kept, found, kept_at, latest_marker, cut_short, mended_pst, retold}
 use Rattle.mending.specs.MendingLaws.{elsewhere, cut_none, cut_latest}
 use Rattle.mending.specs.MendingStoreLaws.{retold_length}

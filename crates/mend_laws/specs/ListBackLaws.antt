@@ -6,7 +6,7 @@ use Rattle.std.proofs.Math.Seq.{drop-append-add}
 use Rattle.same.specs.SameListLaws.{equal_same}
 use Rattle.text.specs.Text.{ascii}
 use Rattle.text.specs.NumberText.{digit_text, digits_text, width_from, width, decimal_text}
-use Rattle.text.specs.NumberTextLaws.{digits_length, left_next, width_holds}
+use Rattle.text.proofs.NumberTextLaws.{digits_length, left_next, width_holds}
 use Rattle.list_lines.specs.declared.Field.TheVariants.{Read}
 use Rattle.list_lines.specs.ListLines.{digits, number, named, line_word, listed, lines_in, list_behind, list_in}
 use Rattle.list_lines.specs.ListInLaws.{some_lines}

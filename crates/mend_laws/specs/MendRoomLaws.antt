@@ -6,7 +6,7 @@ use Rattle.trace.specs.TraceReading.{counted}
 use Rattle.text.specs.Text.{ascii, Puts}
 use Rattle.text.specs.TextLaws.{told_whole}
 use Rattle.text.specs.NumberText.{width_from, width, decimal_text}
-use Rattle.text.specs.NumberTextLaws.{digits_length}
+use Rattle.text.proofs.NumberTextLaws.{digits_length}
 use Rattle.mending.specs.Mending.{mended_pst, mended, changes}
 use Rattle.mending.specs.MendingAnswer.{mending}
 use Rattle.mending.specs.MendingAnswerLaws.{mending_done}

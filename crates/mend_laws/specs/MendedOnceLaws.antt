@@ -6,7 +6,7 @@ use Prim.Native.Nat.{ℕ, zero, suc, ◌≤◌, ◌<◌}
 use borrow.Author.Tests.{eq-eqb}
 use Rattle.cycle.specs.Cycle.{pst, reserved, too_soon, carried_into}
 use Rattle.trace.specs.TraceReading.{counted, reading}
-use Rattle.trace.specs.TraceReadableLaws.{Passes, Readable, read_readable}
+use Rattle.trace.proofs.TraceReadableLaws.{Passes, Readable, read_readable}
 use Rattle.mending.specs.Mending.{kept, found, mended_pst, mended, changes_before, changes}
 use Rattle.mending.specs.MendingLaws.{elsewhere, cut_none}
 use Rattle.mend_laws.specs.RetoldLaws.{retold_same}

@@ -6,10 +6,10 @@ use Rattle.std.proofs.Math.Bool.{true, false}
 use Rattle.std.proofs.lemmas.Bool.{false≢true, eqb-false}
 use Rattle.laws.specs.TestLaws.{by_test}
 use Rattle.cycle.specs.Cycle.{pst, marker, reserved, too_soon, after, carried_into}
-use Rattle.cycle.specs.CycleLaws.{never}
+use Rattle.cycle.proofs.CycleLaws.{never}
 use Rattle.trace.specs.Items.{items}
 use Rattle.trace.specs.TraceReading.{counted, reading}
-use Rattle.trace.specs.TraceReadableLaws.{Passes, Readable, readable_read}
+use Rattle.trace.proofs.TraceReadableLaws.{Passes, Readable, readable_read}
 use Rattle.mending.specs.Mending.{kept, found, kept_at, latest_marker, cut_short, mended_pst, retold, mended}
 use Rattle.mending.specs.MendingLaws.{Announced, at_cut, elsewhere, cut_none, cut_latest, cut_announced}
 use Rattle.mending.specs.MendingStoreLaws.{retold_length}

@@ -2,7 +2,7 @@
 use Rattle.std.specs.Prelude.{◌≡◌, refl, ℕ, ◌≤◌, ◌<◌, Bool, true, false, cond, List, ◌++◌, ltb, length, take, drop}
 use Rattle.std.proofs.Common.{ap, sym, ◌∙◌, arith, length-append, take_at, lt-ltb, le-ltb}
 use Rattle.trace.specs.TraceReading.{Told, refusal, counted, too_long, too_short}
-use Rattle.trace.specs.TraceReadingLaws.{short_so, room_so, same_count}
+use Rattle.trace.proofs.TraceReadingLaws.{short_so, room_so, same_count}
 use Rattle.mending.specs.declared.Mending.{Mending}
 use Rattle.mending.specs.declared.Mending.TheVariants.{Changed}
 use Rattle.mending.specs.Mending.{mended_pst, mended, changes}

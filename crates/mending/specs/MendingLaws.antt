@@ -4,7 +4,7 @@ use Rattle.std.proofs.Math.Path.{sym}
 use Rattle.std.proofs.Common.{add-one, arith}
 use borrow.Author.Tests.{eq-eqb, ne_eqb, lt-ltb, le-ltb}
 use Rattle.laws.specs.TestLaws.{either}
-use Rattle.cycle.specs.CycleLaws.{never}
+use Rattle.cycle.proofs.CycleLaws.{never}
 use Rattle.cycle.specs.Cycle.{pst, ddata, marker, nibbles, due_after, reserved, too_soon, after}
 use Rattle.mending.specs.Mending.{kept, found, kept_at, latest_marker, cut_short, mended_pst, retold, change_word, changes_before}
 

@@ -8,7 +8,7 @@ use Rattle.answers.specs.declared.Bench.{Bench}
 use Rattle.answers.specs.Bench.{Left, left}
 use Rattle.morning_page.specs.declared.Judged.{Judged}
 use Rattle.morning_page.specs.MorningPage.{Check, check_of, check_text, checks_text, bad_after, bad_from, bad_of, verdict_text, page_text, AllAsDue, JudgedSo}
-use Rattle.morning_page.specs.MorningPageLaws.{ending, good_said_all_due, all_due_good_said}
+use Rattle.morning_page.proofs.MorningPageLaws.{ending, good_said_all_due, all_due_good_said}
 use Rattle.morning_page.specs.MorningRoomLaws.{size_of, sizes_of, checks_length, verdict_length}
 use Rattle.listed.specs.Listed.{listed_text}
 use Rattle.scripts.specs.declared.Checked.{Checked}

@@ -1,3 +1,2 @@
 pub mod MorningPage
-pub mod MorningPageLaws
 pub mod MorningRoomLaws

@@ -3,7 +3,7 @@ use Rattle.std.specs.Prelude.{ℕ, ◌+◌, ◌≤◌, ◌≡◌, Bool, true, fa
 use Rattle.std.proofs.Common.{arith, length-append}
 use Rattle.text.specs.Text.{ascii}
 use Rattle.text.specs.NumberText.{decimal_text}
-use Rattle.text.specs.NumberTextLaws.{decimal_length}
+use Rattle.text.proofs.NumberTextLaws.{decimal_length}
 use Rattle.morning_page.specs.MorningPage.{Check, is_good, under_text, judged_text, check_text, checks_text, good_letters, bad_letters, verdict_text}
 
 -- what a check takes on the page at most

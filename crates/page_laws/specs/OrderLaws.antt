@@ -8,7 +8,7 @@ use Rattle.cycle.specs.Cycle.{pst, gives_own, after, carried_into}
 use Rattle.cycle.specs.CycleItems.{of_value, of_cycle, value_item, own_item, items_at}
 use Rattle.trace.specs.Items.{items_before, items_from, items}
 use Rattle.index.specs.Entry.{entry_at}
-use Rattle.index.specs.EntryLaws.{items_on}
+use Rattle.index.proofs.EntryLaws.{items_on}
 use Rattle.tally.specs.Tally.{one, count_of, first_of, last_of}
 
 -- an item is one of these

@@ -7,10 +7,10 @@ use Rattle.trace.specs.TraceReading.{counted, told_listing}
 use Rattle.listing.specs.Listing.{ListingMeets}
 use Rattle.index.specs.declared.Entry.{Entry}
 use Rattle.index.specs.Entry.{entry_at, of_word, EntryMeets}
-use Rattle.index.specs.EntryLaws.{entry_is_the_rest}
+use Rattle.index.proofs.EntryLaws.{entry_is_the_rest}
 use Rattle.summary.specs.declared.page.Page.{Page}
 use Rattle.index.specs.Index.{index_words, Bytes}
-use Rattle.index.specs.IndexLaws.{length_index, index_read_back}
+use Rattle.index.proofs.IndexLaws.{length_index, index_read_back}
 use Rattle.summary.specs.Page.{index_after, PageMeets}
 
 -- a page of a trace of bytes, with the buffer that it left, and the k-th word of that

@@ -6,13 +6,13 @@ use Rattle.std.specs.Float.Ieee.{round}
 use Rattle.trace.specs.declared.Listing.TheVariants.{Items}
 use Rattle.trace.specs.Items.{items}
 use Rattle.trace.specs.TraceReading.{counted, told_listing, reading}
-use Rattle.trace.specs.TraceReadingLaws.{read_count, whole_short}
+use Rattle.trace.proofs.TraceReadingLaws.{read_count, whole_short}
 use Rattle.trace.specs.TraceReadingUnique.{told_listing_unique}
 use Rattle.rate.specs.declared.Rate.TheVariants.{Average}
 use Rattle.index.specs.Index.{Bytes}
 use Rattle.summary.specs.declared.page.Page.{Page}
 use Rattle.tally.specs.Tally.{count_of, first_of, last_of}
-use Rattle.tally.specs.TallyLaws.{of_code}
+use Rattle.tally.proofs.TallyLaws.{of_code}
 use Rattle.summary.specs.NotingLaws.{starts_tallied}
 use Rattle.page_laws.specs.PageRateLaws.{page_rate}
 use Rattle.summary.specs.PageLaws.{page_read_so}

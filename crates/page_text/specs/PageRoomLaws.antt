@@ -4,11 +4,11 @@ use Prim.Native.String.{String}
 use Rattle.std.proofs.Common.{arith, le_refl, le_of_eq, length-append, length-take, le-ltb, ltb-false}
 use Rattle.cycle.specs.declared.Carried.{Carried}
 use Rattle.trace.specs.TraceReading.{Told, refusal, counted, too_long, too_short, judged_from, reading}
-use Rattle.trace.specs.TraceReadingLaws.{whole_short}
+use Rattle.trace.proofs.TraceReadingLaws.{whole_short}
 use Rattle.index.specs.declared.Entry.{Entry}
 use Rattle.index.specs.Entry.{of_word}
 use Rattle.index.specs.Index.{entry_count, index_words}
-use Rattle.index.specs.IndexLaws.{length_index}
+use Rattle.index.proofs.IndexLaws.{length_index}
 use Rattle.rate.specs.declared.Rate.{Rate}
 use Rattle.rate.specs.declared.Rate.TheVariants.{NothingStarted, Average}
 use Rattle.rate.specs.Rate.{rate_bits, hundredths}
@@ -18,7 +18,7 @@ use Rattle.summary.specs.PageLaws.{page_read_so}
 use Rattle.text.specs.Text.{ascii, Puts}
 use Rattle.text.specs.TextLaws.{told_whole}
 use Rattle.text.specs.NumberText.{digits_text, decimal_text}
-use Rattle.text.specs.NumberTextLaws.{digits_length, decimal_length}
+use Rattle.text.proofs.NumberTextLaws.{digits_length, decimal_length}
 use Rattle.page_text.specs.PageText.{
   named,
   line,

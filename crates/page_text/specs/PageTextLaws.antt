@@ -8,11 +8,11 @@ use Rattle.trace.specs.TraceReading.{refusal, counted, told_listing}
 use Rattle.grounds.specs.Grounds.{number}
 use Rattle.index.specs.Entry.{of_word}
 use Rattle.index.specs.Index.{entry_count, index_words}
-use Rattle.index.specs.IndexLaws.{length_index}
+use Rattle.index.proofs.IndexLaws.{length_index}
 use Rattle.summary.specs.declared.page.Page.{Page}
 use Rattle.summary.specs.Page.{page_of, page_by, page_verdict, PageMeets}
 use Rattle.text.specs.NumberText.{digit_text, digits_text, hex_text, decimal_text}
-use Rattle.text.specs.NumberTextLaws.{width_here}
+use Rattle.text.proofs.NumberTextLaws.{width_here}
 use Rattle.page_text.specs.PageText.{code_line, codes_from, entry_line, index_from, page_text, printed}
 
 -- a digit is not changed by what stands above

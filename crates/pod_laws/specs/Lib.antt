@@ -4,7 +4,6 @@ pub mod RequestCountLaws
 pub mod ReplyLaws
 pub mod NotYetLaws
 pub mod ImpossibleReplies
-pub mod ImpossibleReplyLaws
 pub mod BuildingUnique
 pub mod ReadingUnique
 pub mod PodExamples

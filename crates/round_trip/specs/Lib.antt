@@ -4,16 +4,3 @@ pub mod BroughtToRest
 pub mod TalkMirror
 pub mod PacketTakenLaws
 pub mod ClosesLaws
-pub mod MeantWorkLaws
-pub mod MeaningLaws
-pub mod RoundTripLaws
-pub mod BroughtToRestLaws
-pub mod TalkLaws
-pub mod UnderwayLaws
-pub mod WriteReadLaws
-pub mod NextRequestLaws
-pub mod IllegalTripLaws
-pub mod WholeRunLaws
-pub mod EveryWLaws
-pub mod EveryFaultLaws
-pub mod MeaningExamples

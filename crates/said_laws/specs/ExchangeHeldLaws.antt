@@ -24,12 +24,12 @@ use Rattle.readings.specs.Reader.{result_word, data_reply, status_reply, first_r
 use Rattle.round_trip.specs.Meaning.{Scene, meaning}
 use Rattle.round_trip.specs.RoundTrip.{legal_there, outcome_there}
 use Rattle.round_trip.specs.BroughtToRest.{rest_budget, rest_scene}
-use Rattle.round_trip.specs.BroughtToRestLaws.{rest_keeps_sound, rest_nops_bound}
-use Rattle.round_trip.specs.MeantWorkLaws.{Sized, sound_is_sized}
+use Rattle.round_trip.proofs.BroughtToRestLaws.{rest_keeps_sound, rest_nops_bound}
+use Rattle.round_trip.proofs.MeantWorkLaws.{Sized, sound_is_sized}
 use Rattle.run.specs.Run.{replies}
 use Rattle.round_trip.specs.ClosesLaws.{Closes}
-use Rattle.round_trip.specs.RoundTripLaws.{legal_closes}
-use Rattle.round_trip.specs.TalkLaws.{packets_bound}
+use Rattle.round_trip.proofs.RoundTripLaws.{legal_closes}
+use Rattle.round_trip.proofs.TalkLaws.{packets_bound}
 use Rattle.exchange.specs.declared.Exchanged.{Exchanged}
 use Rattle.exchange.specs.declared.Exchanged.TheVariants.{Ended, Refused as RefusedToExchange}
 use Rattle.exchange_verdict.specs.ExchangeVerdict.{exchange_verdict}

@@ -46,7 +46,7 @@ use Rattle.exchange.specs.declared.Exchanged.{Exchanged}
 use Rattle.exchange.specs.declared.Exchanged.TheVariants.{Ended, Refused as RefusedToExchange}
 use Rattle.text.specs.Text.{flag_text}
 use Rattle.text.specs.NumberText.{digits_text}
-use Rattle.text.specs.NumberTextLaws.{digits_length, number_length, decimal_length}
+use Rattle.text.proofs.NumberTextLaws.{digits_length, number_length, decimal_length}
 use Rattle.refusal_text.specs.RefusalText.{refused_at}
 use Rattle.request_text.specs.RequestText.{outcome_text, each_word, reading_text}
 use Rattle.replies.specs.ReplyText.{packet_text, captured_text, halting_text, event_text, breakpoint_text, bytes_text}

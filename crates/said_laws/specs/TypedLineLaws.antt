@@ -25,7 +25,7 @@ use Rattle.request_lines.specs.RequestLines.{size_behind, register_read, request
 use Rattle.talk_lines.specs.declared.TalkLine.TheVariants.{Ask}
 use Rattle.talk_lines.specs.TalkLines.{either_line, talk_line}
 use Rattle.text.specs.NumberText.{digits_text, hex_text, number_text}
-use Rattle.text.specs.NumberTextLaws.{number_length}
+use Rattle.text.proofs.NumberTextLaws.{number_length}
 use Rattle.text_laws.specs.ReadBackLaws.{hex_numeral, number_numeral}
 
 -- a line of two words, however they are parted, the second of them a number, however it is typed

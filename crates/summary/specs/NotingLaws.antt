@@ -9,8 +9,8 @@ use Rattle.cycle.specs.CycleCountLaws.{at_most_one}
 use Rattle.trace.specs.Items.{items_before}
 use Rattle.trace.specs.ItemLaws.{items_more, items_before_le}
 use Rattle.tally.specs.Tally.{one, count_of, first_of, last_of, starts_of, each, per_code}
-use Rattle.tally.specs.TallyLaws.{of_code, row_set, count_snoc, first_snoc, last_snoc, no_first, count_le_length}
-use Rattle.tally.specs.StartsLaws.{starts_are_four}
+use Rattle.tally.proofs.TallyLaws.{of_code, row_set, count_snoc, first_snoc, last_snoc, no_first, count_le_length}
+use Rattle.tally.proofs.StartsLaws.{starts_are_four}
 use Rattle.summary.specs.TallyMirror.{Notes, Tallied}
 
 first_or_none : (xs : List Item) (code : ℕ) (b : Bool) → eqb (count_of xs code) 0 ≡ b → cond b 0 (first_of xs code) ≡ first_of xs code

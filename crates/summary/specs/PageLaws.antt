@@ -10,9 +10,9 @@ use Rattle.laws.specs.StoreLaws.{sets_front}
 use Rattle.cycle.specs.Cycle.{nothing}
 use Rattle.trace.specs.Items.{items}
 use Rattle.trace.specs.TraceReading.{refusal, counted, told_listing, too_short, reading}
-use Rattle.trace.specs.TraceReadingLaws.{refused_so, passed_so, read_count, short_so, room_so, passed_read}
+use Rattle.trace.proofs.TraceReadingLaws.{refused_so, passed_so, read_count, short_so, room_so, passed_read}
 use Rattle.index.specs.Index.{entry_count, index_words}
-use Rattle.index.specs.IndexLaws.{length_index}
+use Rattle.index.proofs.IndexLaws.{length_index}
 use Rattle.summary.specs.declared.page.Page.{Page}
 use Rattle.summary.specs.Page.{page_of, blank, page_by, page_verdict, index_after, PageMeets}
 

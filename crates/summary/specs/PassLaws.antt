@@ -13,9 +13,9 @@ use Rattle.trace.specs.declared.Listing.TheVariants.{Items}
 use Rattle.trace.specs.Items.{items}
 use Rattle.trace.specs.ItemLaws.{items_before_le}
 use Rattle.trace.specs.TraceReading.{refusal, counted, told_listing, too_long, earliest, ends_inside, judged_from, reading}
-use Rattle.trace.specs.TraceReadingLaws.{whole_short}
+use Rattle.trace.proofs.TraceReadingLaws.{whole_short}
 use Rattle.tally.specs.Tally.{count_of}
-use Rattle.tally.specs.TallyLaws.{of_code, count_le_length}
+use Rattle.tally.proofs.TallyLaws.{of_code, count_le_length}
 use Rattle.index.specs.Index.{index_words}
 use Rattle.summary.specs.TallyMirror.{Tallied, ReadTallied}
 

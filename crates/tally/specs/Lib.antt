@@ -1,3 +1,1 @@
 pub mod Tally
-pub mod TallyLaws
-pub mod StartsLaws

@@ -3,4 +3,3 @@ pub mod NumberText
 pub mod ListingText
 pub mod TextLaws
 pub mod TextPartLaws
-pub mod NumberTextLaws

@@ -7,7 +7,7 @@ use Rattle.numbers.specs.declared.Numeral.TheVariants.{Value}
 use Rattle.numbers.specs.NumberLaws.{within, above}
 use Rattle.numbers.specs.NumeralLaws.{digits_have_no_prefix}
 use Rattle.text.specs.NumberText.{digit_text, digits_text, width_from, width, hex_text, number_text, decimal_text}
-use Rattle.text.specs.NumberTextLaws.{digits_length, width_holds}
+use Rattle.text.proofs.NumberTextLaws.{digits_length, width_holds}
 
 -- digits read one by one, each by what it is worth, after those that made the number before them
 abbrev pub read_from : (ℕ → ℕ) → ℕ → ℕ → List ℕ → ℕ

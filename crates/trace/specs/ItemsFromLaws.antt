@@ -6,7 +6,7 @@ use Rattle.std.proofs.Math.ListN.{length}
 use Rattle.cycle.specs.declared.Carried.{Carried}
 use Rattle.cycle.specs.declared.Item.{Item}
 use Rattle.cycle.specs.Cycle.{pst, nothing, after, carried_into}
-use Rattle.cycle.specs.CycleLaws.{carried_next}
+use Rattle.cycle.proofs.CycleLaws.{carried_next}
 use Rattle.cycle.specs.CycleItems.{items_at}
 use Rattle.cycle.specs.CycleCountLaws.{count_le}
 use Rattle.laws.specs.StoreLaws.{one_left}

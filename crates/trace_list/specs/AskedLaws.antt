@@ -5,7 +5,7 @@ use Rattle.std.proofs.Common.{ap, sym, ◌∙◌, div-le_self, div-one, mod-lt, 
 use Rattle.std.proofs.Math.Nat.{div-add-mod, div-eq_of_lt, pow-zero}
 use borrow.Author.Tests.{lt-ltb, le-ltb, eq-eqb, eqb-true}
 use Rattle.text.specs.NumberText.{digit_text, digits_text, width_from, width, decimal_text}
-use Rattle.text.specs.NumberTextLaws.{left_next, width_holds}
+use Rattle.text.proofs.NumberTextLaws.{left_next, width_holds}
 use Rattle.trace_list.specs.declared.asked.Asked.{Asked}
 use Rattle.trace_list.specs.declared.asked.Asked.TheVariants.{Whole, From, Unclear}
 use Rattle.trace_list.specs.Asked.{decimal, multiple, from_of, AskedMeets, none, one, more}

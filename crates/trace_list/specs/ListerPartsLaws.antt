@@ -4,7 +4,7 @@ use Rattle.std.proofs.Common.{ap, arith, length-append}
 use Rattle.cycle.specs.declared.Item.{Item}
 use Rattle.trace.specs.Items.{items, words}
 use Rattle.trace.specs.TraceReading.{Told, refusal, counted, reading}
-use Rattle.text.specs.NumberTextLaws.{decimal_length}
+use Rattle.text.proofs.NumberTextLaws.{decimal_length}
 use Rattle.trace_list.specs.ListerLines.{item_line, item_lines, refused_line, head_line, lines_by, whole_lines}
 use Rattle.console.specs.GatheringLaws.{joined, parts_joined, EachWithin, parts_within}
 use Rattle.trace_list.specs.ListerPartsMirror.{parts_by, whole_parts}

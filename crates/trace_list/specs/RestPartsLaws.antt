@@ -12,15 +12,15 @@ use Rattle.trace.specs.declared.Listing.TheVariants.{Items, Refused}
 use Rattle.trace.specs.Items.{items, items_to_end, words}
 use Rattle.trace.specs.ItemLaws.{length_words}
 use Rattle.trace.specs.TraceReading.{Told, refusal, counted, told_listing, too_short, reading}
-use Rattle.trace.specs.TraceReadingLaws.{refused_so, passed_so, same_count, room_so, read_short, reading_whole}
-use Rattle.trace.specs.TraceStartLaws.{read_on}
+use Rattle.trace.proofs.TraceReadingLaws.{refused_so, passed_so, same_count, room_so, read_short, reading_whole}
+use Rattle.trace.proofs.TraceStartLaws.{read_on}
 use Rattle.trace.specs.ItemsFromLaws.{items_from_le}
 use Rattle.listing.specs.Listing.{listing_from, words_over}
 use Rattle.listing.specs.ListingLaws.{read_from}
 use Rattle.index.specs.declared.Entry.{Entry}
 use Rattle.index.specs.Entry.{EntryMeets, entry_at, of_word}
 use Rattle.index.specs.Index.{entry_count, index_words, Bytes}
-use Rattle.index.specs.IndexLaws.{length_index, index_read_back}
+use Rattle.index.proofs.IndexLaws.{length_index, index_read_back}
 use Rattle.summary.specs.declared.page.Page.{Page}
 use Rattle.summary.specs.Page.{page_verdict, index_after, PageMeets}
 use Rattle.text.specs.Text.{written}

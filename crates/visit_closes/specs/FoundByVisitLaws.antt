@@ -16,9 +16,9 @@ use Rattle.late_replies.specs.LateReplies.{Begins}
 use Rattle.late_replies.specs.LateRepliesLaws.{visit_begins}
 use Rattle.promises.specs.Machine.{stand_in}
 use Rattle.promises.specs.History.{Lent, Call, lending, after, made}
-use Rattle.promises.specs.HistoryLaws.{Fits, fresh_fits, history_fits, after_both}
+use Rattle.promises.proofs.HistoryLaws.{Fits, fresh_fits, history_fits, after_both}
 use Rattle.promises.specs.RunHistory.{packets_of}
-use Rattle.promises.specs.RunHistoryLaws.{run_is, after_lending}
+use Rattle.promises.proofs.RunHistoryLaws.{run_is, after_lending}
 use Rattle.visit_closes.specs.NotedReplies.{sent_by, found_by_visit, VisitIsItsPackets}
 use Rattle.visit_closes.specs.VisitTrailLaws.{packet_within, onward_port, over_stays}
 

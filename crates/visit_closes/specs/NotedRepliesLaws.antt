@@ -24,9 +24,9 @@ use Rattle.promises.specs.TakenWords.{Word, stage}
 use Rattle.promises.specs.TakenWords.Closing.{reply}
 use Rattle.promises.specs.Environment.{Found, Trail, noted, trail, begun}
 use Rattle.promises.specs.History.{Lent, Call, after, finds, made}
-use Rattle.promises.specs.HistoryLaws.{fresh_fits, history_fits, finds_fit, place_of_trail}
+use Rattle.promises.proofs.HistoryLaws.{fresh_fits, history_fits, finds_fit, place_of_trail}
 use Rattle.promises.specs.RunHistory.{packets_of}
-use Rattle.promises.specs.PlaceClosingLaws.{kept_from_fresh, place_closes_kept}
+use Rattle.promises.proofs.PlaceClosingLaws.{kept_from_fresh, place_closes_kept}
 use Rattle.promises.specs.Demand3.{last_closed, trail_of}
 use Rattle.visit_closes.specs.NotedReplies.{sent_by, is_closed, notes_at, notes_now, found_by_visit, met, calls_before, words_before, NotedIsClosing}
 use Rattle.visit_closes.specs.FoundByVisitLaws.{found_sound, visit_is_its_packets}

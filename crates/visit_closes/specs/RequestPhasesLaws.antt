@@ -35,8 +35,8 @@ use Rattle.round_trip.specs.Meaning.{Scene}
 use Rattle.round_trip.specs.RoundTrip.{resting, legal_there}
 use Rattle.round_trip.specs.PacketTakenLaws.{waits_none, waits_more, due_none, due_more, operand_taken, wait_taken, scene_taken, command_taken}
 use Rattle.round_trip.specs.ClosesLaws.{Fits, ended_in, taken}
-use Rattle.round_trip.specs.MeantWorkLaws.{Sized, work_ending, work_scene}
-use Rattle.round_trip.specs.MeaningLaws.{legal_is_known, address_sent, value_sent, work_is_meant}
+use Rattle.round_trip.proofs.MeantWorkLaws.{Sized, work_ending, work_scene}
+use Rattle.round_trip.proofs.MeaningLaws.{legal_is_known, address_sent, value_sent, work_is_meant}
 
 -- ---- the phases
 abbrev pub TakesOperand : Phase → Type 0

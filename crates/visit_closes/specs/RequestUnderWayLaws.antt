@@ -22,13 +22,13 @@ use Rattle.readings.specs.Reader.{done}
 use Rattle.pod_laws.specs.RequestCountLaws.{word_count_bound}
 use Rattle.visit.specs.Visit.{is_illegal}
 use Rattle.round_trip.specs.RoundTrip.{resting, scene_of, legal_there}
-use Rattle.round_trip.specs.MeantWorkLaws.{sound_is_sized}
+use Rattle.round_trip.proofs.MeantWorkLaws.{sound_is_sized}
 use Rattle.round_trip.specs.PacketTakenLaws.{illegal_taken, nop_at_rest}
-use Rattle.round_trip.specs.BroughtToRestLaws.{rest_is_resting}
+use Rattle.round_trip.proofs.BroughtToRestLaws.{rest_is_resting}
 use Rattle.promises.specs.TakenWords.{Word}
 use Rattle.promises.specs.Environment.{begins, heard}
 use Rattle.promises.specs.Demand3.{last_closed}
-use Rattle.promises.specs.PlaceTellsLaws.{PlaceTells}
+use Rattle.promises.proofs.PlaceTellsLaws.{PlaceTells}
 use Rattle.visit_closes.specs.RequestPhasesLaws.{reader_next, Ahead, waits_there, waits_bound, legal_ahead}
 use Rattle.visit_closes.specs.TrailStepsLaws.{HeardAs, heard_operand, heard_ignored, heard_begins, found_in}
 

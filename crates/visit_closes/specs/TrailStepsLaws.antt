@@ -22,9 +22,9 @@ use Rattle.promises.specs.Demand3.{last_closed}
 use Rattle.promises.specs.RunHistory.{packets_of}
 use Rattle.promises.specs.OperandLaws.{held}
 use Rattle.promises.specs.StageLaws.{stage_due, stage_waiting}
-use Rattle.promises.specs.PlaceTellsLaws.{Tells}
-use Rattle.promises.specs.HistoryLaws.{Fits, within_is_accepted}
-use Rattle.promises.specs.RunHistoryLaws.{bytes_as_they_are}
+use Rattle.promises.proofs.PlaceTellsLaws.{Tells}
+use Rattle.promises.proofs.HistoryLaws.{Fits, within_is_accepted}
+use Rattle.promises.proofs.RunHistoryLaws.{bytes_as_they_are}
 use Rattle.visit_closes.specs.RequestPhasesLaws.{TakesOperand, Ignores}
 
 -- ---- the last word, once a packet more is heard

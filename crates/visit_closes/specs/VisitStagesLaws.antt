@@ -27,14 +27,14 @@ use Rattle.visit.specs.Visit.{request_now, packet_by, patience, on_stage, after_
 use Rattle.visit.specs.Visit as visit
 use Rattle.round_trip.specs.RoundTrip.{scene_of, standing_in}
 use Rattle.round_trip.specs.PacketTakenLaws.{illegal_taken}
-use Rattle.round_trip.specs.BroughtToRestLaws.{rest_is_resting}
+use Rattle.round_trip.proofs.BroughtToRestLaws.{rest_is_resting}
 use Rattle.joined.specs.Joined.{word_of}
 use Rattle.asked.specs.RequestAtLaws.{asked_in_range}
 use Rattle.joined.specs.MarkerJoinedLaws.{no_command}
 use Rattle.promises.specs.TakenWords.{Word}
 use Rattle.promises.specs.Environment.{heard}
 use Rattle.promises.specs.Demand3.{last_closed}
-use Rattle.promises.specs.PlaceTellsLaws.{PlaceTells}
+use Rattle.promises.proofs.PlaceTellsLaws.{PlaceTells}
 use Rattle.visit_closes.specs.RequestPhasesLaws.{reader_next}
 use Rattle.visit_closes.specs.TrailStepsLaws.{found_in}
 use Rattle.visit_closes.specs.RequestUnderWayLaws.{Under, command_under, under_on, goes_ends}

@@ -10,7 +10,7 @@ use Rattle.board.specs.State.{State, state_of}
 use Rattle.step.specs.Step.{reply_now, stepped}
 use Rattle.sound.specs.Sound.{Sound}
 use Rattle.sound.specs.SoundLaws.{packet_keeps_sound, packet_keeps_w}
-use Rattle.round_trip.specs.UnderwayLaws.{sent_clear}
+use Rattle.round_trip.proofs.UnderwayLaws.{sent_clear}
 use Rattle.asked.specs.Marker.{illegal_at, illegal_word, mark_word}
 use Rattle.visit.specs.declared.Stage.{Stage}
 use Rattle.visit.specs.declared.Stage.TheVariants.{Marking, Asking, AsRead, NotRead}
@@ -26,8 +26,8 @@ use Rattle.promises.specs.TakenWords.Stage.{operand_due, wait_due, upper_due, cl
 use Rattle.promises.specs.Environment.{Found, Trail, heard_at, heard, noted, trail}
 use Rattle.promises.specs.History.{finds}
 use Rattle.promises.specs.RunHistory.{packets_of}
-use Rattle.promises.specs.PlaceTellsLaws.{PlaceTells}
-use Rattle.promises.specs.PlaceClosingLaws.{Kept, kept_noted, place_closes_kept}
+use Rattle.promises.proofs.PlaceTellsLaws.{PlaceTells}
+use Rattle.promises.proofs.PlaceClosingLaws.{Kept, kept_noted, place_closes_kept}
 use Rattle.promises.specs.Demand3.{last_closed}
 use Rattle.visit_closes.specs.NotedReplies.{sent_by}
 use Rattle.visit_closes.specs.TrailStepsLaws.{found_in, trail_packet}

@@ -16,7 +16,7 @@ use Rattle.asked.specs.VisitRequests.{registers_asked}
 use Rattle.visit.specs.Visit.{table_in_range}
 use Rattle.round_trip.specs.Meaning.{Scene, cleared}
 use Rattle.round_trip.specs.BroughtToRest.{rest_budget, rest_scene}
-use Rattle.round_trip.specs.BroughtToRestLaws.{rest_keeps_sound}
+use Rattle.round_trip.proofs.BroughtToRestLaws.{rest_keeps_sound}
 use Rattle.visit_course.specs.VisitCourse.{Course, behind_marker, course_from, course_of}
 use Rattle.visit_course.specs.TableRead.{table_read, longwords_there, longwords_asked}
 use Rattle.visit_course.specs.RegistersRead.{registers_read, csr_cleared}

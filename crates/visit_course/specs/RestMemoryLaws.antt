@@ -35,7 +35,7 @@ use Rattle.sound.specs.Sound.{PhaseWithin, Sound}
 use Rattle.sound.specs.SoundLaws.{packet_keeps_sound}
 use Rattle.visit.specs.Visit.{table_in_range}
 use Rattle.round_trip.specs.BroughtToRest.{rested, rest_budget, rest_scene}
-use Rattle.round_trip.specs.BroughtToRestLaws.{comes_to_rest}
+use Rattle.round_trip.proofs.BroughtToRestLaws.{comes_to_rest}
 use Rattle.visit_course.specs.VisitCourse.{course_of}
 use Rattle.visit_course.specs.CourseIsLaws.{course_is}
 use Rattle.visit_course.specs.RestMemory.{command_under_way, address_due, value_due, memory_at_rest, board_at_rest, is_store, touches, RestCompletes}

@@ -8,7 +8,7 @@ use Rattle.readings.specs.declared.Outcome.{Outcome}
 use Rattle.readings.specs.declared.Outcome.TheVariants.{Value, Complete, BusError, Illegal}
 use Rattle.text.specs.Text.{ascii}
 use Rattle.text.specs.NumberText.{hex_text}
-use Rattle.text.specs.NumberTextLaws.{digits_length, decimal_length}
+use Rattle.text.proofs.NumberTextLaws.{digits_length, decimal_length}
 use Rattle.console.specs.LineWriting.{line_end}
 use Rattle.console.specs.GatheringLaws.{joined, parts_joined, EachWithin, parts_within}
 use Rattle.visit.specs.declared.Reason.{Reason}

@@ -28,7 +28,7 @@ use Rattle.answers.specs.Bench.{Left, left, bench_of, leaves, port_state}
 use Rattle.every_wait.specs.EveryWait.{Result, result_of, answer_to}
 use Rattle.every_wait.specs.SettledLaws.{at_setting}
 use Rattle.every_wait.specs.OneRequestLaws.{Ready, same_request}
-use Rattle.every_wait.specs.EveryWaitLaws.{fresh_ready}
+use Rattle.every_wait.proofs.EveryWaitLaws.{fresh_ready}
 use Rattle.waits_lines.specs.WaitsLines.{prepares, is_taken, left_as, result_text, row_as, taken_in, left_by, all_taken, lines_leave, rows, bytes_before}
 use Rattle.waits_run.specs.WaitsRun.{start_at}
 

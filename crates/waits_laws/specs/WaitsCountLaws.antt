@@ -7,8 +7,8 @@ use Rattle.grounds.specs.declared.Verdict.TheVariants.{Accepted, Refused}
 use Rattle.board.specs.State.{State}
 use Rattle.requests.specs.declared.Request.{Request}
 use Rattle.round_trip.specs.BroughtToRest.{rest_budget, rest_scene}
-use Rattle.round_trip.specs.BroughtToRestLaws.{rest_keeps_sound, rest_nops_bound}
-use Rattle.round_trip.specs.TalkLaws.{packets_bound}
+use Rattle.round_trip.proofs.BroughtToRestLaws.{rest_keeps_sound, rest_nops_bound}
+use Rattle.round_trip.proofs.TalkLaws.{packets_bound}
 use Rattle.exchange_verdict.specs.ExchangeVerdict.{exchange_verdict}
 use Rattle.exchange.specs.ExchangeLaws.{accepted_is_within}
 use Rattle.talk_lines.specs.declared.TalkLine.{TalkLine}

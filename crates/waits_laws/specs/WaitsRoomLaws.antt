@@ -8,7 +8,7 @@ use Rattle.console.specs.InputLines.{is_line_end}
 use Rattle.text.specs.Text.{Puts, ascii}
 use Rattle.text.specs.TextLaws.{told_whole}
 use Rattle.text.specs.NumberText.{hex_text, digits_text, width_from, decimal_text}
-use Rattle.text.specs.NumberTextLaws.{digits_length, decimal_length}
+use Rattle.text.proofs.NumberTextLaws.{digits_length, decimal_length}
 use Rattle.grounds.specs.declared.Ground.{Ground}
 use Rattle.grounds.specs.declared.Ground.TheVariants as why
 use Rattle.state_line.specs.StateText.{state_text}

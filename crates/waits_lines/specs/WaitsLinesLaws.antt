@@ -8,7 +8,7 @@ use Rattle.grounds.specs.Grounds.{number}
 use Rattle.text.specs.Text.{Puts, ascii}
 use Rattle.text.specs.TextLaws.{◌then◌, nothing}
 use Rattle.text.specs.NumberText.{decimal_text, hex_text}
-use Rattle.text.specs.NumberTextLaws.{digits_length, decimal_length}
+use Rattle.text.proofs.NumberTextLaws.{digits_length, decimal_length}
 use Rattle.readings.specs.declared.Outcome.TheVariants.{Value, Complete, BusError, Illegal}
 use Rattle.exchange.specs.declared.Exchanged.{Exchanged}
 use Rattle.exchange.specs.declared.Exchanged.TheVariants.{Ended, Refused}

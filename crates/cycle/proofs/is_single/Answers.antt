@@ -1,5 +1,5 @@
 use mathlib.Core.Path.{sym}
-use Rattle.cycle.specs.CycleLaws.{single_bit, marker_not_single}
+use Rattle.cycle.proofs.CycleLaws.{single_bit, marker_not_single}
 use borrow.Author.Rules.{rules}
 use Rattle.cycle.proofs.is_single.Goals as goal
 

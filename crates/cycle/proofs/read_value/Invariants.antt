@@ -4,7 +4,7 @@ use Prim.Native.Nat.{◌+◌, ◌-◌, ◌≤◌}
 use native.Mathlib.Omega.{arith}
 use borrow.Author.Rules.{rules}
 use Rattle.cycle.specs.Cycle.{value}
-use Rattle.cycle.specs.CycleLaws.{value_where, value_of_none, value_before, value_leaves_room}
+use Rattle.cycle.proofs.CycleLaws.{value_where, value_of_none, value_before, value_leaves_room}
 use Rattle.cycle.proofs.read_value.Given as goal
 
 abbrev pub invariant-loop-k : goal.invariant-loop-k

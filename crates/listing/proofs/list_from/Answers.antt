@@ -5,7 +5,7 @@ use lib.ListN.{length}
 use Rattle.trace.specs.Items.{items_to_end, words}
 use Rattle.trace.specs.ItemLaws.{length_words}
 use Rattle.trace.specs.TraceReading.{counted, told_listing}
-use Rattle.trace.specs.TraceReadingLaws.{short_so, room_so, read_short}
+use Rattle.trace.proofs.TraceReadingLaws.{short_so, room_so, read_short}
 use Rattle.listing.specs.ListingLaws.{refused_from, read_from, listing_meets}
 use Rattle.laws.specs.StoreLaws.{sets_front}
 use borrow.Author.Rules.{rules}

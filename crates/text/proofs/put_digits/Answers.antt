@@ -3,7 +3,7 @@ use native.Mathlib.Omega.{arith}
 use native.Mathlib.Nat.{mod-lt}
 use Rattle.text.specs.TextLaws.{Remains, all_remains, rest_remains, none_remains}
 use Rattle.text.specs.NumberText.{digits_text}
-use Rattle.text.specs.NumberTextLaws.{digits_on, digits_none}
+use Rattle.text.proofs.NumberTextLaws.{digits_on, digits_none}
 use lib.ListN.{length}
 use borrow.Author.Rules.{rules}
 use Rattle.text.proofs.put_digits.Goals as goal

@@ -1,6 +1,6 @@
 use Prim.Native.Nat.{◌/◌, ◌^◌}
 use mathlib.Core.Path.{◌≡◌, refl, sym, ◌∙◌}
-use Rattle.text.specs.NumberTextLaws.{shift_step, shift_done}
+use Rattle.text.proofs.NumberTextLaws.{shift_step, shift_done}
 use borrow.Author.Rules.{rules}
 use Rattle.text.proofs.shifted.Given as goal
 

@@ -8,7 +8,7 @@ use lib.ListN.{length}
 use Rattle.trace.specs.Items.{items_to_end}
 use Rattle.trace.specs.ItemsFromLaws.{count_to_end, to_end_none, items_from_le}
 use Rattle.trace.specs.TraceReading.{counted, too_long, earliest, ends_inside, judged_from, reading_from}
-use Rattle.trace.specs.TraceReadingLaws.{earliest_reserved, earliest_too_soon, earliest_passes, earliest_ends, reading_short}
+use Rattle.trace.proofs.TraceReadingLaws.{earliest_reserved, earliest_too_soon, earliest_passes, earliest_ends, reading_short}
 use Rattle.trace.proofs.judge_from.Goals as goal
 
 pub returns-then-trace-gt65536 : goal.returns-then-trace-gt65536

@@ -1,5 +1,5 @@
 use mathlib.Core.Path.{◌∙◌}
-use Rattle.trace.specs.TraceReadingLaws.{reading_whole}
+use Rattle.trace.proofs.TraceReadingLaws.{reading_whole}
 use borrow.Author.Rules.{rules}
 use Rattle.trace.proofs.judge_trace.Goals as goal
 

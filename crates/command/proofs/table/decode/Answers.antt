@@ -4,7 +4,7 @@ use mathlib.Core.List.{[], ◌∷◌}
 use borrow.Author.Tests.{ne_eqb}
 use Rattle.command.specs.Command as commands
 use Rattle.command.specs.TableMirror.{size_in, debug_at, nop_or_sync}
-use Rattle.command.specs.TableLaws.{under, entry, fill}
+use Rattle.command.proofs.TableLaws.{under, entry, fill}
 use borrow.Author.Rules.{rules}
 use Rattle.command.proofs.table.decode.Goals as goal
 

@@ -4,7 +4,7 @@ use Rattle.step.specs.Step.{stepped}
 use Rattle.sound.specs.SoundLaws.{packet_keeps_sound}
 use Rattle.building.specs.RequestWords.{command_word}
 use Rattle.round_trip.specs.TalkMirror.{exchanged, from_command}
-use Rattle.round_trip.specs.UnderwayLaws.{sent_clear, exchange_closes}
+use Rattle.round_trip.proofs.UnderwayLaws.{sent_clear, exchange_closes}
 use Rattle.exchange.specs.SendingLaws.{built_then_nops}
 use borrow.Author.Rules.{rules}
 use Rattle.exchange.proofs.talk.converse.Goals as goal

@@ -8,17 +8,17 @@ use native.Mathlib.Omega.{arith}
 use lib.ListN.{length}
 use lib.Seq.{sets}
 use Rattle.cycle.specs.Cycle.{pst, carried_into}
-use Rattle.cycle.specs.CycleLaws.{carried_next}
+use Rattle.cycle.proofs.CycleLaws.{carried_next}
 use Rattle.cycle.specs.CycleItems.{value_item}
 use Rattle.trace.specs.Items.{items_before, items}
 use Rattle.cycle.specs.CycleCountLaws.{count_le}
 use Rattle.trace.specs.ItemLaws.{count_next, items_before_le}
 use Rattle.trace.specs.TraceReading.{counted}
-use Rattle.trace.specs.TraceReadingLaws.{earliest_reserved, earliest_too_soon, earliest_passes, earliest_ends}
+use Rattle.trace.proofs.TraceReadingLaws.{earliest_reserved, earliest_too_soon, earliest_passes, earliest_ends}
 use Rattle.index.specs.RangeLaws.{marker_at_most}
 use Rattle.summary.specs.NotingLaws.{cycle_noted, items_with_value, room_for_one}
 use Rattle.index.specs.Index.{entry_count, first_entries, index_words}
-use Rattle.index.specs.IndexLaws.{entry_next}
+use Rattle.index.proofs.IndexLaws.{entry_next}
 use Rattle.summary.specs.PassLaws.{Judging, judging_starts, too_long_so}
 use borrow.Author.Rules.{rules}
 use Rattle.summary.specs.TallyMirror.{Tallied}

@@ -24,9 +24,9 @@ use Rattle.promises.specs.Machine.{Machine, stand_in}
 use Rattle.promises.specs.Environment.{Found, Handed, handed}
 use Rattle.promises.specs.History.{Lent, Call, lending, after, finds, made}
 use Rattle.promises.specs.History.Call.{packet}
-use Rattle.promises.specs.HistoryLaws.{Fits, within_is_accepted, packet_fits, fresh_fits, history_fits, after_both}
+use Rattle.promises.proofs.HistoryLaws.{Fits, within_is_accepted, packet_fits, fresh_fits, history_fits, after_both}
 use Rattle.promises.specs.Demand3.{next_reply, trail_of}
-use Rattle.promises.specs.Demand3Laws.{closing_replies}
+use Rattle.promises.proofs.Demand3Laws.{closing_replies}
 use Rattle.promises.specs.RunHistory.{as_bytes, lent_as, packets_of, replies_to, RunIsItsPackets, RunCloses}
 
 -- bytes are lent as they are

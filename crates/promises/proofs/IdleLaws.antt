@@ -25,8 +25,8 @@ use Rattle.promises.specs.History.{Lent, Call, lending, after_call, after, finds
 use Rattle.promises.specs.History.Call.{packet, event, breakpoint}
 use Rattle.promises.specs.History.Idle.{none, nop, with_event, with_breakpoint}
 use Rattle.promises.specs.Demand3.{SameButStatus, Unmoved}
-use Rattle.promises.specs.SameNopLaws.{SameNop, same_nop}
-use Rattle.promises.specs.HistoryLaws.{Fits, within_is_accepted, call_fits, packet_fits}
+use Rattle.promises.proofs.SameNopLaws.{SameNop, same_nop}
+use Rattle.promises.proofs.HistoryLaws.{Fits, within_is_accepted, call_fits, packet_fits}
 
 -- two states with the same place, on boards that agree in all but the status
 record Alike (s r : State) : Type 0 where

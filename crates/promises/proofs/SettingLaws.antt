@@ -30,6 +30,7 @@ use Rattle.promises.specs.Machine.{stand_in}
 use Rattle.promises.specs.History.{Call, after, made}
 use Rattle.promises.specs.History.Call.{packet}
 use Rattle.promises.specs.LendingLaws.{no_memory, sends}
+use Rattle.promises.specs.ByEyeExamples.{p5_words}
 
 -- at rest, with the reply of a fresh board, and no memory lent
 abbrev standing : Board → State
@@ -88,11 +89,6 @@ go_sent : (b : Board) → board_in_range b ≡ true → b.status.halted ≡ true
     ≡ standing (board_after go b 0 0)
 unfolding fresh_place in_range begun collected work_after plan_for stepped packet_verdict decoded decoded_word after
 go_sent b ranged halted none = rw (ranged, halted, none)
-
--- WDMREG of PBR, ABLR, AATR and TDR, then GO
-abbrev pub p5_words : ℕ → ℕ → List ℕ
-p5_words pbr ablr =
-    0x2C88 ∷ pbr / 65536 ∷ pbr % 65536 ∷ 0x2C8D ∷ ablr / 65536 ∷ ablr % 65536 ∷ 0x2C86 ∷ 0 ∷ 0x0005 ∷ 0x2C87 ∷ 0x2004 ∷ 0x2002 ∷ 0x0C00 ∷ []
 
 module _ (w pbr ablr : ℕ) (small : w ≤ 15) (narrow-pbr : pbr < 2 ^ 32) (narrow-ablr : ablr < 2 ^ 32) where
   pub p5_set_by_packets : after stand_in (made w) (sends no_memory (p5_words pbr ablr)) ≡ standing (p5_board w pbr ablr)

@@ -21,9 +21,9 @@ use Rattle.readings.specs.ReaderLaws.{done_stays, done_uses_none}
 use Rattle.round_trip.specs.Meaning.{Scene}
 use Rattle.round_trip.specs.RoundTrip.{nops, resting, unchained, legal_there, all_words, IllegalTrip}
 use Rattle.round_trip.specs.PacketTakenLaws.{illegal_taken}
-use Rattle.round_trip.specs.BroughtToRestLaws.{nops_rest}
-use Rattle.round_trip.specs.TalkLaws.{words_length}
-use Rattle.round_trip.specs.NextRequestLaws.{ran_append, run_keeps_sound}
+use Rattle.round_trip.proofs.BroughtToRestLaws.{nops_rest}
+use Rattle.round_trip.proofs.TalkLaws.{words_length}
+use Rattle.round_trip.proofs.NextRequestLaws.{ran_append, run_keeps_sound}
 
 -- a place at rest that holds 0x1FFFF: whatever is sent, the first reply closes
 illegal_read : (kind : ResultKind) (words : List ℕ) (s : Scene) → 1 ≤ length words → reading_of kind (replies words (resting s illegal)) ≡ Ended Illegal 1

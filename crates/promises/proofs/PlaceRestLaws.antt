@@ -15,7 +15,7 @@ use Rattle.sound.specs.Sound.{SoundPlace}
 use Rattle.sound.specs.SoundLaws.{packet_keeps_place, fresh_place_is_sound}
 use Rattle.promises.specs.Environment.AllFit.{none, more}
 use Rattle.promises.specs.Environment.AllNops.{done, nop}
-use Rattle.promises.specs.PlaceClosingLaws.{Kept, kept_noted, kept_from_fresh, place_closes_kept}
+use Rattle.promises.proofs.PlaceClosingLaws.{Kept, kept_noted, kept_from_fresh, place_closes_kept}
 
 pub place_fits_trail : (w : ℕ) (t : Trail) (fs : List Found) → AllFit w fs → SoundPlace w t.place → SoundPlace w (trail stand_in t fs).place
 unfolding trail

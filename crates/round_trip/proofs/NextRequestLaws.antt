@@ -18,8 +18,8 @@ use Rattle.pod_laws.specs.NotYetLaws.{further_replies}
 use Rattle.round_trip.specs.Meaning.{Scene, Meaning, meaning}
 use Rattle.round_trip.specs.RoundTrip.{nops, resting, legal_there, legal_leaves, nops_there, words_there, later_replies}
 use Rattle.round_trip.specs.PacketTakenLaws.{nop_at_rest}
-use Rattle.round_trip.specs.RoundTripLaws.{legal_closes, round_trip}
-use Rattle.round_trip.specs.MeantWorkLaws.{Sized, sound_is_sized}
+use Rattle.round_trip.proofs.RoundTripLaws.{legal_closes, round_trip}
+use Rattle.round_trip.proofs.MeantWorkLaws.{Sized, sound_is_sized}
 
 -- ---- more NOPs
 pub ran_append : (xs ys : List ℕ) (s : State) → ran (xs ++ ys) s ≡ ran ys (ran xs s)

@@ -12,9 +12,9 @@ use Rattle.trace.specs.ItemLaws.{length_words}
 use Rattle.trace.specs.ItemsFromLaws.{items_split, words_split}
 use Rattle.trace.specs.TraceReading.{refusal, counted, told_listing, too_short, reading}
 use Rattle.listing.specs.Listing.{listing_from, words_over, words_after, ListingMeets}
-use Rattle.trace.specs.TraceReadingLaws.{read_count, short_so, room_so}
+use Rattle.trace.proofs.TraceReadingLaws.{read_count, short_so, room_so}
 use Rattle.listing.specs.ListingLaws.{read_from, listed_read}
-use Rattle.trace.specs.TraceStartLaws.{count_split, read_on}
+use Rattle.trace.proofs.TraceStartLaws.{count_split, read_on}
 use Rattle.index.specs.declared.Entry.{Entry}
 use Rattle.index.specs.Entry.{entry_at, EntryMeets}
 

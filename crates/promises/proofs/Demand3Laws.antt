@@ -9,11 +9,11 @@ use Rattle.promises.specs.Environment.{Trail, begun, AllFit, AllNops}
 use Rattle.promises.specs.History.{Lent, Call, after, finds, made, Idle}
 use Rattle.promises.specs.Demand3.{PlaceRests, NopsBring, trail_of, NeverStranded, ClosingReplies, Demand3, PlaceDemand3}
 use Rattle.sound.specs.Sound.{SoundPlace}
-use Rattle.promises.specs.PlaceClosingLaws.{kept_from_fresh, place_closes}
-use Rattle.promises.specs.PlaceRestLaws.{place_rests_from, place_rests}
-use Rattle.promises.specs.HistoryLaws.{Fits, ranged, within_is_accepted, fresh_fits, history_fits, finds_fit, place_of_trail}
-use Rattle.promises.specs.HeldRegisterLaws.{register_below_16}
-use Rattle.promises.specs.IdleLaws.{idle_found, idle_unmoved}
+use Rattle.promises.proofs.PlaceClosingLaws.{kept_from_fresh, place_closes}
+use Rattle.promises.proofs.PlaceRestLaws.{place_rests_from, place_rests}
+use Rattle.promises.proofs.HistoryLaws.{Fits, ranged, within_is_accepted, fresh_fits, history_fits, finds_fit, place_of_trail}
+use Rattle.promises.proofs.HeldRegisterLaws.{register_below_16}
+use Rattle.promises.proofs.IdleLaws.{idle_found, idle_unmoved}
 
 module _ (w : ℕ) (small : w ≤ 15) (history : List Call) where
   reached : Fits w (after stand_in (made w) history)

@@ -12,7 +12,7 @@ use Rattle.cycle.specs.Cycle.{pst, reserved, too_soon, nothing, after, carried_i
 use Rattle.cycle.specs.declared.Carried.{Carried}
 use Rattle.trace.specs.Items.{items}
 use Rattle.trace.specs.TraceReading.{Told, refusal, counted, too_long, earliest, ends_inside, judged_from, reading}
-use Rattle.trace.specs.TraceReadingLaws.{whole_short}
+use Rattle.trace.proofs.TraceReadingLaws.{whole_short}
 
 -- neither 8 nor 9 at cycle i
 pub record Passes (trace : List ℕ) (i : ℕ) : Type 0 where

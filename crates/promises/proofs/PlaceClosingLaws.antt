@@ -16,7 +16,7 @@ use Rattle.promises.specs.Demand3.{next_reply, last_closed, earlier, PlaceCloses
 use Rattle.promises.specs.Environment.AllFit.{none, more}
 use Rattle.promises.specs.OperandLaws.{held}
 use Rattle.promises.specs.StageLaws.{stage_due, stage_waiting}
-use Rattle.promises.specs.PlaceTellsLaws.{Tells, PlaceTells, tells_next}
+use Rattle.promises.proofs.PlaceTellsLaws.{Tells, PlaceTells, tells_next}
 
 module _ (w : ℕ) where
   told_next : (phase : Phase) (next : ℕ) (os : List Word) → Tells w phase next os → reply_in phase next ≡ next_reply os

@@ -7,7 +7,7 @@ use Rattle.memory.specs.declared.Size.TheVariants.{Byte, Word, Long}
 use Rattle.command.specs.declared.Command.{Command}
 use Rattle.command.specs.declared.Command.TheVariants.{Unknown, Nop, Load, Store, Show, Change}
 use Rattle.command.specs.Command.{Row, table, looked_up, rdreg, wdreg, decoded_word, decoded, operand_words, result_words}
-use Rattle.command.specs.CommandWordLaws.{same, same_is_equal}
+use Rattle.command.proofs.CommandWordLaws.{same, same_is_equal}
 use Rattle.command.specs.TableMirror.{operand_digits, takes, allowed, Allows, size_in, words_for, counts_in, counts_of}
 use Rattle.laws.specs.TestLaws.{by_test, both_hold}
 

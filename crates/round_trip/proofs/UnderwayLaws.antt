@@ -19,8 +19,8 @@ use Rattle.building.specs.RequestWordLaws.{Clear, built_clear}
 use Rattle.readings.specs.Reader.{after_reply, done}
 use Rattle.round_trip.specs.BroughtToRest.{rested, rest_nops, rest_budget}
 use Rattle.round_trip.specs.TalkMirror.{talk, talked, talk_budget, from_command, exchanged}
-use Rattle.round_trip.specs.BroughtToRestLaws.{comes_to_rest}
-use Rattle.round_trip.specs.TalkLaws.{exchange_comes_to}
+use Rattle.round_trip.proofs.BroughtToRestLaws.{comes_to_rest}
+use Rattle.round_trip.proofs.TalkLaws.{exchange_comes_to}
 
 -- ---- bringing to rest: n NOPs are sent
 pub record RestUnderway (n : ℕ) (s start : State) : Type 0 where

@@ -23,7 +23,7 @@ use Rattle.round_trip.specs.Meaning.{Scene, cleared, meaning}
 use Rattle.round_trip.specs.RoundTrip.{standing_in, legal_there}
 use Rattle.round_trip.specs.PacketTakenLaws.{scene_taken}
 use Rattle.round_trip.specs.ClosesLaws.{taken}
-use Rattle.round_trip.specs.MeantWorkLaws.{Meant, word_cleared, load_meant, store_meant, read_control_meant, write_control_meant, csr_fits, debug_meant}
+use Rattle.round_trip.proofs.MeantWorkLaws.{Meant, word_cleared, load_meant, store_meant, read_control_meant, write_control_meant, csr_fits, debug_meant}
 
 -- a legal word is a command's
 no_command : (c : Command) (s : Standing) → legal_command c s ≡ true → c ≡ Unknown → ⊥

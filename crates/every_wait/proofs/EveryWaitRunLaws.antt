@@ -18,18 +18,18 @@ use Rattle.building.specs.RequestWords.{built_words}
 use Rattle.pod_laws.specs.MeantCommand.{command_of}
 use Rattle.round_trip.specs.Meaning.{Scene, Meaning, meaning}
 use Rattle.round_trip.specs.RoundTrip.{resting, legal_there, legal_leaves, state_there, closing_replies, nops_there, words_there}
-use Rattle.round_trip.specs.MeantWorkLaws.{sound_is_sized}
-use Rattle.round_trip.specs.RoundTripLaws.{round_trip}
-use Rattle.round_trip.specs.TalkLaws.{words_length}
-use Rattle.round_trip.specs.NextRequestLaws.{ran_append, left_sound}
-use Rattle.round_trip.specs.EveryWLaws.{at_w, same_at_every_w}
+use Rattle.round_trip.proofs.MeantWorkLaws.{sound_is_sized}
+use Rattle.round_trip.proofs.RoundTripLaws.{round_trip}
+use Rattle.round_trip.proofs.TalkLaws.{words_length}
+use Rattle.round_trip.proofs.NextRequestLaws.{ran_append, left_sound}
+use Rattle.round_trip.proofs.EveryWLaws.{at_w, same_at_every_w}
 use Rattle.exchange_verdict.specs.ExchangeVerdict.{exchange_verdict}
 use Rattle.exchange.specs.Exchange.{exchange_leaves}
 use Rattle.exchange.specs.ExchangeLaws.{accepted_is_within}
 use Rattle.exchange.specs.ExchangeAtRestLaws.{from_rest}
 use Rattle.every_wait.specs.EveryWait.{fresh_at, answers, is_legal, legals, AllLegal, left_by, Result, results}
 use Rattle.every_wait.specs.EveryWaitRun.{outcomes, meant_by, words_of, LegalThrough, Trips, waiting, fresh_scene, PacketsAt}
-use Rattle.every_wait.specs.EveryWaitLaws.{fresh_ready}
+use Rattle.every_wait.proofs.EveryWaitLaws.{fresh_ready}
 
 -- ---- with another wait setting
 module _ (w : ℕ) where

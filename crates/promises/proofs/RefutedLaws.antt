@@ -31,7 +31,7 @@ use Rattle.promises.specs.History.{Call, lending, after, finds, made, Idle}
 use Rattle.promises.specs.History.Call.{packet, event}
 use Rattle.sound.specs.Sound.{SoundMemory}
 use Rattle.promises.specs.Demand3.{Demand3, PlaceDemand3}
-use Rattle.promises.specs.HistoryLaws.{fresh_fits}
+use Rattle.promises.proofs.HistoryLaws.{fresh_fits}
 use Rattle.promises.specs.LendingLaws.{no_memory, sends}
 
 -- a packet on a fresh board of W = 2, with no memory

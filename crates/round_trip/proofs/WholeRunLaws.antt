@@ -11,11 +11,11 @@ use Rattle.requests.specs.Request.{in_range}
 use Rattle.building.specs.RequestWords.{command_word, built_words}
 use Rattle.round_trip.specs.RoundTrip.{nops, legal_there, second_word, state_there, nops_there, words_there, packets_there}
 use Rattle.round_trip.specs.BroughtToRest.{rested, rest_budget, rest_scene, rest_packets, packets_from}
-use Rattle.round_trip.specs.MeantWorkLaws.{sound_is_sized}
-use Rattle.round_trip.specs.RoundTripLaws.{round_trip, illegal_trip}
-use Rattle.round_trip.specs.BroughtToRestLaws.{comes_to_rest, rest_keeps_sound, rest_packets_are_nops, rest_is_resting}
-use Rattle.round_trip.specs.TalkLaws.{words_length}
-use Rattle.round_trip.specs.NextRequestLaws.{ran_append}
+use Rattle.round_trip.proofs.MeantWorkLaws.{sound_is_sized}
+use Rattle.round_trip.proofs.RoundTripLaws.{round_trip, illegal_trip}
+use Rattle.round_trip.proofs.BroughtToRestLaws.{comes_to_rest, rest_keeps_sound, rest_packets_are_nops, rest_is_resting}
+use Rattle.round_trip.proofs.TalkLaws.{words_length}
+use Rattle.round_trip.proofs.NextRequestLaws.{ran_append}
 
 pub record WholeRun (request : Request) (s : State) (words : List ℕ) : Type 0 where
   -- what it leaves is what the exchange leaves

@@ -30,9 +30,9 @@ use Rattle.round_trip.specs.RoundTrip.{state_there, closing_replies, nops_there,
 use Rattle.round_trip.specs.BroughtToRest.{rested, rest_budget, rest_scene}
 use Rattle.round_trip.specs.TalkMirror.{Talk, talk, talked, talk_budget, exchanged}
 use Rattle.round_trip.specs.ClosesLaws.{Closes}
-use Rattle.round_trip.specs.MeantWorkLaws.{Sized, sound_is_sized}
-use Rattle.round_trip.specs.RoundTripLaws.{legal_closes, illegal_closes}
-use Rattle.round_trip.specs.BroughtToRestLaws.{rest_is_resting, comes_to_rest, rest_keeps_sound}
+use Rattle.round_trip.proofs.MeantWorkLaws.{Sized, sound_is_sized}
+use Rattle.round_trip.proofs.RoundTripLaws.{legal_closes, illegal_closes}
+use Rattle.round_trip.proofs.BroughtToRestLaws.{rest_is_resting, comes_to_rest, rest_keeps_sound}
 use Rattle.laws.specs.TestLaws.{by_test}
 
 -- ---- the words sent, one after the other

@@ -9,7 +9,7 @@ use Rattle.trace.specs.Items.{items_before, items, items_to_end}
 use Rattle.laws.specs.StoreLaws.{one_left}
 use Rattle.trace.specs.ItemsFromLaws.{items_split}
 use Rattle.trace.specs.TraceReading.{Told, refusal, counted, earliest, reading, reading_from}
-use Rattle.trace.specs.TraceReadingLaws.{passes_any, read_count, read_short, reading_short, reading_whole}
+use Rattle.trace.proofs.TraceReadingLaws.{passes_any, read_count, read_short, reading_short, reading_whole}
 
 -- the items before a cycle and those from it on are as many as the trace's
 pub count_split : (trace : List ℕ) (i : ℕ) → i ≤ length trace

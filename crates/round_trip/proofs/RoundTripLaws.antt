@@ -22,8 +22,8 @@ use Rattle.round_trip.specs.Meaning.{Scene, meaning}
 use Rattle.round_trip.specs.RoundTrip.{nops, resting, legal_there, legal_leaves, second_word, illegal_leaves, closing_replies, nops_there, words_there, Trip}
 use Rattle.round_trip.specs.PacketTakenLaws.{due_none, scene_taken, command_taken, illegal_taken}
 use Rattle.round_trip.specs.ClosesLaws.{Closes, ending_closes, taken, waits_close, operands_taken}
-use Rattle.round_trip.specs.MeantWorkLaws.{Sized, work_ending, work_scene}
-use Rattle.round_trip.specs.MeaningLaws.{legal_is_known, address_sent, value_sent, work_is_meant}
+use Rattle.round_trip.proofs.MeantWorkLaws.{Sized, work_ending, work_scene}
+use Rattle.round_trip.proofs.MeaningLaws.{legal_is_known, address_sent, value_sent, work_is_meant}
 
 -- ---- legal
 module _ (request : Request) (s : Scene) (next : ℕ) (h : in_range request ≡ true) (l : legal_there request s ≡ true) (z : Sized s) where

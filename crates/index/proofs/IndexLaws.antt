@@ -12,7 +12,7 @@ use Rattle.cycle.specs.Cycle.{carried_into}
 use Rattle.trace.specs.Items.{items_before}
 use Rattle.laws.specs.StoreLaws.{sets_append}
 use Rattle.index.specs.Entry.{entry_at, entry_word, of_word}
-use Rattle.index.specs.EntryWordLaws.{entry_read_back}
+use Rattle.index.proofs.EntryWordLaws.{entry_read_back}
 use Rattle.index.specs.Index.{entry_count, first_entries, index_words, Bytes}
 
 pub length_entries : (trace : List ℕ) (n : ℕ) → length (first_entries trace n) ≡ n

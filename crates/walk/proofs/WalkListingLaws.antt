@@ -10,14 +10,14 @@ use Rattle.trace.specs.declared.Listing.{Listing}
 use Rattle.trace.specs.Items.{items, words}
 use Rattle.trace.specs.ItemLaws.{length_words}
 use Rattle.trace.specs.TraceReading.{Told, refusal, counted, told_listing, too_long, earliest, ends_inside, too_short, judged_from, reading}
-use Rattle.trace.specs.TraceReadingLaws.{reading_whole, read_count}
+use Rattle.trace.proofs.TraceReadingLaws.{reading_whole, read_count}
 use Rattle.listing.specs.Listing.{listing, listing_from, words_after, ListingMeets}
 use Rattle.listing.specs.ListingLaws.{refused_from, read_from, listing_whole, listed_read}
 use Rattle.steps.specs.WalkStep.{refusal as stepRefusal, told_handed}
 use Rattle.walk.specs.declared.Walk.{Walk}
 use Rattle.walk.specs.Walk.{WalkStarts, stepped_of, handed_out}
 use Rattle.walk.specs.WalkListing.{HandsOut, HandsRefusal, with_room, HandsListing, RefusedAsListing}
-use Rattle.walk.specs.WalkLaws.{good_start, refused_start}
+use Rattle.walk.proofs.WalkLaws.{good_start, refused_start}
 
 -- 11 is all that a buffer adds to the judgement of a trace
 listing_by_room : (trace : List ℕ) (room : ℕ) → listing trace room ≡ with_room room (reading trace)

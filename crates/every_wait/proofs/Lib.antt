@@ -1,0 +1,3 @@
+-- The laws of the definitions.
+pub mod EveryWaitLaws
+pub mod EveryWaitRunLaws

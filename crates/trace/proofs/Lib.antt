@@ -1,0 +1,4 @@
+-- The laws of the definitions.
+pub mod TraceReadableLaws
+pub mod TraceReadingLaws
+pub mod TraceStartLaws
