@@ -1,3 +1,3 @@
 -- The laws of the definitions.
-pub mod CycleExamples
+pub mod CycleExampleLaws
 pub mod CycleLaws

@@ -2,3 +2,4 @@ pub mod Cycle
 pub mod CycleItems
 pub mod CycleCountLaws
 pub mod MarkerLaws
+pub mod CycleExamples

@@ -6,7 +6,7 @@ use Rattle.cycle.specs.CycleItems.{items_at}
 use Rattle.trace.specs.Items.{items_before, items_from, words}
 use Rattle.trace.specs.TraceReading.{Told, refusal, counted, too_long, earliest, ends_inside, too_short, judged_from}
 use Rattle.listing.specs.Listing.{listing_from}
-use Rattle.cycle.proofs.CycleExamples.{p9}
+use Rattle.cycle.specs.CycleExamples.{p9}
 use Rattle.index.specs.declared.Entry.{Entry}
 use Rattle.index.specs.Entry.{entry_at, entry_word, of_word}
 use Rattle.index.proofs.EntryLaws.{items_on}

@@ -2,7 +2,7 @@
 use Rattle.std.specs.Prelude.{◌≡◌, refl}
 use Rattle.cycle.specs.Cycle.{gives_own, after, carried_into, value}
 use Rattle.cycle.specs.CycleItems.{items_at}
-use Rattle.cycle.proofs.CycleExamples.{p9}
+use Rattle.cycle.specs.CycleExamples.{p9}
 use Rattle.trace.specs.Items.{items_before, items}
 use Rattle.trace.specs.TraceReading.{too_long, earliest, ends_inside, too_short, judged_from}
 use Rattle.listing.specs.Listing.{listing}

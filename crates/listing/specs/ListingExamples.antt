@@ -6,7 +6,7 @@ use Rattle.std.proofs.lemmas.List.{length-replicate}
 use Rattle.cycle.specs.declared.Carried.{Carried}
 use Rattle.cycle.specs.Cycle.{nothing, gives_own, after, carried_into, value}
 use Rattle.cycle.specs.CycleItems.{items_at}
-use Rattle.cycle.proofs.CycleExamples.{p9, p9_words}
+use Rattle.cycle.specs.CycleExamples.{p9, p9_words}
 use Rattle.trace.specs.Items.{items_before, items, words}
 use Rattle.trace.specs.TraceReading.{Told, refusal, counted, too_long, earliest, ends_inside, too_short, judged_from}
 use Rattle.listing.specs.Listing.{listing}

@@ -1,7 +1,7 @@
 -- What mending makes of small traces and of P9 (01), computed from the definitions.
 use Rattle.std.specs.Prelude.{◌≡◌, refl, ℕ, ◌+◌, ◌*◌, List, [], ◌∷◌}
 use Rattle.cycle.specs.Cycle.{after}
-use Rattle.cycle.proofs.CycleExamples.{p9}
+use Rattle.cycle.specs.CycleExamples.{p9}
 use Rattle.trace.specs.TraceReading.{refusal, counted, too_long, too_short}
 use Rattle.mending.specs.Mending.{kept, found, latest_marker, cut_short, mended_pst, retold, mended, changes_before, changes}
 use Rattle.mending.specs.MendingAnswer.{mending}

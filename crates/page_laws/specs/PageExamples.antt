@@ -6,7 +6,7 @@ use Rattle.cycle.specs.Cycle.{gives_own, after, carried_into, value}
 use Rattle.cycle.specs.CycleItems.{items_at}
 use Rattle.trace.specs.Items.{items_before, items}
 use Rattle.trace.specs.TraceReading.{refusal, counted, too_long, earliest, ends_inside, too_short, judged_from}
-use Rattle.cycle.proofs.CycleExamples.{p9}
+use Rattle.cycle.specs.CycleExamples.{p9}
 use Rattle.tally.specs.Tally.{count_of, first_of, last_of, starts_of, each, per_code}
 use Rattle.index.specs.Index.{first_entries, index_words}
 use Rattle.summary.specs.Page.{page_of, page_verdict}

@@ -1,5 +1,5 @@
 -- P1 to P9 in one statement, proved from the definitions by computation.
-use Rattle.std.specs.Prelude.{ℕ, ◌%◌, ◌^◌, ◌≤◌, ◌<◌, ◌≡◌, refl, List, ◌∷◌}
+use Rattle.std.specs.Prelude.{ℕ, ◌%◌, ◌^◌, ◌≤◌, ◌<◌, ◌≡◌, refl, true, List, [], ◌∷◌, ◌++◌}
 use Rattle.std.proofs.Common.{ap, ◌∙◌, le-leb, eq-eqb}
 use Rattle.memory.specs.Memory.{fetched, stored}
 use Rattle.command.specs.Command.{decoded, decoded_word}

@@ -1,5 +1,5 @@
 -- What the desk checks by eye (01): P1 to P9 in one statement, proved from the definitions by computation.
-use Rattle.std.specs.Prelude.{ℕ, ◌/◌, ◌%◌, ◌^◌, ◌≤◌, ◌<◌, ◌≡◌, refl, true, false, List, ◌∷◌, ◌++◌}
+use Rattle.std.specs.Prelude.{ℕ, ◌/◌, ◌%◌, ◌^◌, ◌≤◌, ◌<◌, ◌≡◌, refl, false, List, [], ◌∷◌, ◌++◌}
 use Rattle.grounds.specs.Grounds.{Refusal, no_refusal, told}
 use Rattle.board.specs.Board.{making_verdict}
 use Rattle.board.specs.State.{State}
@@ -11,6 +11,7 @@ use Rattle.bus.specs.Events.{event_outcome}
 use Rattle.bus.specs.EventExamples.{fired, p4_outside, p4_inside, p4_csr, p5_event}
 use Rattle.run.specs.PacketExamples.{sixteen, p1_words, p1_replies, p2_words, p2_replies, p3_words, p3_replies, p6_words, p6_replies, p7_words, p7_replies, p8_words}
 use Rattle.run.specs.PacketExamples.{p8_replies}
+use Rattle.cycle.specs.CycleExamples.{p9, p9_words}
 use Rattle.trace.specs.Items.{items, words}
 use Rattle.trace.specs.TraceReading.{refusal, counted}
 use Rattle.listing.specs.Listing.{listing}
