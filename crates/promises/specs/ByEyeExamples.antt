@@ -1,5 +1,5 @@
 -- What the desk checks by eye (01): P1 to P9 in one statement, proved from the definitions by computation.
-use Rattle.std.specs.Prelude.{ℕ, ◌/◌, ◌%◌, ◌^◌, ◌≤◌, ◌<◌, ◌≡◌, refl, false, List, [], ◌∷◌, ◌++◌}
+use Rattle.std.specs.Prelude.{ℕ, ◌/◌, ◌%◌, ◌^◌, ◌≤◌, ◌<◌, ◌≡◌, refl, true, false, List, [], ◌∷◌, ◌++◌}
 use Rattle.grounds.specs.Grounds.{Refusal, no_refusal, told}
 use Rattle.board.specs.Board.{making_verdict}
 use Rattle.board.specs.State.{State}
