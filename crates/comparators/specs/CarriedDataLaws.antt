@@ -1,8 +1,8 @@
 -- Laws of the data that an access carries ([1] of 02): other lanes make no difference, of longwords data hold as before, and none hold that did not.
-use Rattle.std.specs.Prelude.{ℕ, ◌-◌, ◌^◌, ◌<◌, ◌≡◌, refl, Bool, false, ◌&&◌, ◌||◌}
+use Rattle.std.specs.Prelude.{ℕ, ◌-◌, ◌^◌, ◌<◌, ◌≡◌, Bool, false, ◌&&◌, ◌||◌}
 use Rattle.std.proofs.Math.Path.{sym, ap}
 use Rattle.std.proofs.Common.{◌∙◌, eq-eqb, arith}
-use Rattle.std.proofs.Math.Bool.{true, not, and-true, or-true}
+use Rattle.std.proofs.Math.Bool.{true, not, and-true}
 use Rattle.std.specs.Int.Bits.{bit_and, and_le_l}
 use Rattle.std.proofs.lemmas.Nat.{and_mask}
 use Rattle.laws.specs.TestLaws.{by_test, both_hold, or_grows, same_truth}

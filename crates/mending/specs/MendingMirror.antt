@@ -1,5 +1,5 @@
 -- How the code goes: a cycle judged with what is due after it, and how the first pass counts the cycles that change.
-use Rattle.std.specs.Prelude.{◌≡◌, ℕ, zero, suc, ◌+◌, Bool, cond, List, eqb, length}
+use Rattle.std.specs.Prelude.{◌≡◌, ℕ, zero, suc, ◌+◌, cond, List, eqb, length}
 use Rattle.cycle.specs.Cycle.{pst, due_after}
 use Rattle.mending.specs.declared.Kept.{Kept}
 use Rattle.mending.specs.declared.Survey.{Survey}

@@ -1,13 +1,12 @@
 -- Laws of numbers that a reader may expect: neither `0x`, leading zeros nor the case of digits matter.
 use Rattle.std.specs.Prelude.{ℕ, zero, suc, ◌+◌, ◌*◌, ◌≤◌, ◌<◌, ◌≡◌, refl, Bool, true, false, List, [], ◌∷◌, ◌++◌, map, leb, eqb, length, take, drop}
-use Rattle.std.proofs.Common.{arith, ap, sym, ◌∙◌, le-leb, leb-true, leb-false, eqb-true}
+use Rattle.std.proofs.Common.{arith, ap, ◌∙◌, le-leb, leb-true, leb-false, eqb-true}
 use Rattle.std.proofs.Math.Bool.{and-false}
 use Rattle.std.proofs.lemmas.List.{length-map}
-use Rattle.std.proofs.lemmas.Bool.{lt-leb}
 use Rattle.laws.specs.TestLaws.{both_hold}
-use Rattle.words.specs.LineWords.{ascii, lower, same}
+use Rattle.words.specs.LineWords.{ascii, lower}
 use Rattle.words.specs.CaseLaws.{by_case, same_lower}
-use Rattle.numbers.specs.Numbers.{digit, is_digit, all_digits, value_from, prefix_length, numeral, byte_at}
+use Rattle.numbers.specs.Numbers.{digit, is_digit, all_digits, value_from, prefix_length, numeral}
 use Rattle.numbers.specs.NumberLaws.{within, below, above}
 
 -- "Case does not matter": A to F for a to f, and no other letter is a digit

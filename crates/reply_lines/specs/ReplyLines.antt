@@ -8,7 +8,7 @@ use Rattle.numbers.specs.declared.Numbers.{Numbers}
 use Rattle.numbers.specs.declared.Numbers.TheVariants.{Zero, One, Two, Three, Four, NotNumbers}
 use Rattle.words.specs.LineWords.{ascii, kind_of, words}
 use Rattle.words.specs.NameTable.{row, found}
-use Rattle.numbers.specs.Numbers.{numeral, numbers}
+use Rattle.numbers.specs.Numbers.{numbers}
 use Rattle.reply_lines.specs.declared.ReplyLine.{ReplyLine}
 use Rattle.reply_lines.specs.declared.ReplyLine.TheVariants.{Nothing, Reply, NoReply}
 use Rattle.reply_lines.specs.declared.TableAsked.{TableAsked}

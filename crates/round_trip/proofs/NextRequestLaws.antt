@@ -1,5 +1,5 @@
 -- What follows from the round trip: more NOPs change nothing, and what is left is sound for the next request.
-use Rattle.std.specs.Prelude.{ℕ, zero, suc, ◌+◌, ◌-◌, ◌≡◌, refl, true, List, [], ◌∷◌, ◌++◌, length}
+use Rattle.std.specs.Prelude.{ℕ, zero, suc, ◌-◌, ◌≡◌, refl, true, List, [], ◌∷◌, ◌++◌, length}
 use Rattle.std.proofs.Common.{ap, ◌∙◌, subst}
 use Rattle.command.specs.Reply.{complete}
 use Rattle.board.specs.State.{State}

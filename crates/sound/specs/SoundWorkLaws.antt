@@ -7,7 +7,7 @@ use Rattle.memory.specs.declared.Size.{Size}
 use Rattle.memory.specs.declared.Size.TheVariants.{Byte, Word, Long}
 use Rattle.memory.specs.declared.Fetch.TheVariants as fetch
 use Rattle.memory.specs.declared.Reach.TheVariants.{Whole, Short}
-use Rattle.memory.specs.Memory.{bytes, aligned, present, first_missing, value_at, fetched, stored, reach}
+use Rattle.memory.specs.Memory.{aligned, present, first_missing, value_at, fetched, stored, reach}
 use Rattle.memory.specs.MemoryLaws.{store_keeps_bytes, store_keeps_length, value_within, limit}
 use Rattle.command.specs.declared.Command.{Command}
 use Rattle.command.specs.declared.Command.TheVariants.{Unknown, Nop, Load, Store, Show, Change}

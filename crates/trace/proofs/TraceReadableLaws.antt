@@ -1,6 +1,6 @@
 -- Laws of a trace that can be read: exactly one in which every cycle passes and which ends inside no transfer; else it is refused at the first that does not.
 use Rattle.std.proofs.Math.Path.{◌≡◌, refl}
-use Rattle.std.proofs.Common.{sym, ◌∙◌, add-zero, zero-add, eq-eqb, ne_eqb, eqb-true, le-ltb}
+use Rattle.std.proofs.Common.{sym, ◌∙◌, zero-add, eq-eqb, ne_eqb, eqb-true, le-ltb}
 use Prim.Native.Nat.{ℕ, zero, suc, ◌+◌, ◌-◌, ◌≤◌, ◌<◌}
 use Rattle.std.specs.Prelude.{Bool, List, eqb}
 use Rattle.std.proofs.Math.Bool.{true, false, cond}

@@ -1,5 +1,5 @@
 -- Laws of case: it does not matter, whether a word is a name, where words are parted, nor whether a line is silent.
-use Rattle.std.specs.Prelude.{ℕ, suc, ◌+◌, ◌≤◌, ◌<◌, ◌≡◌, refl, Bool, true, false, cond, ◌&&◌, List, [], ◌∷◌, map, leb, eqb, length}
+use Rattle.std.specs.Prelude.{ℕ, ◌+◌, ◌≤◌, ◌<◌, ◌≡◌, refl, Bool, true, false, cond, List, [], ◌∷◌, map, leb, eqb}
 use Rattle.std.proofs.Common.{arith, ap, sym, ◌∙◌, le-leb, leb-true, leb-false, ne_eqb}
 use Rattle.std.proofs.Math.Bool.{and-false}
 use Rattle.std.proofs.lemmas.List.{length-map}

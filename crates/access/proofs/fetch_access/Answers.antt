@@ -1,4 +1,3 @@
-use borrow.Author.Rules.{rules}
 use Rattle.access.proofs.fetch_access.Goals as goal
 
 pub returns-in-Value : goal.returns-in-Value

@@ -1,5 +1,4 @@
 use mathlib.Core.Path.{refl}
-use borrow.Author.Rules.{rules}
 use Rattle.access.proofs.make_access.Goals as goal
 
 pub returns-in-Load : goal.returns-in-Load

@@ -1,4 +1,3 @@
-use borrow.Author.Rules.{rules}
 use Rattle.access.proofs.store_access.Goals as goal
 
 pub returns-in-Whole : goal.returns-in-Whole

@@ -1,11 +1,10 @@
 use Rattle.text.specs.TextLaws.{◌then◌}
-use borrow.Author.Rules.{rules}
 use Rattle.answers.proofs.lend.Goals as goal
 
 pub returns : goal.returns
 returns c = record {
-      bench = c.bench_after.ensures.0;
-      memory = c.clear.ensures;
-      text = rw c.bench_after.ensures.1 (c.put_text-at.ensures
-          then c.put_number-end.ensures);
-    }
+  bench = c.bench_after.ensures.0;
+  memory = c.clear.ensures;
+  text = rw c.bench_after.ensures.1 (c.put_text-at.ensures
+      then c.put_number-end.ensures);
+}

@@ -1,4 +1,3 @@
-use borrow.Author.Rules.{rules}
 use Rattle.answers.proofs.opened.Goals as goal
 
 pub returns : goal.returns

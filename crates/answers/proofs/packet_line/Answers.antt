@@ -1,7 +1,6 @@
 use Rattle.lent.specs.LentLaws.{lent_part}
 use lib.ListN.{length-take}
 use native.Mathlib.Omega.{arith}
-use borrow.Author.Rules.{rules}
 use Rattle.answers.proofs.packet_line.Goals as goal
 
 pub slice_bounds-take_word-end-2 : goal.slice_bounds-take_word-end-2

@@ -1,5 +1,4 @@
 use Rattle.answers.specs.SaidLaws.{breakpoint_outcome_lem}
-use borrow.Author.Rules.{rules}
 use Rattle.answers.proofs.press.Goals as goal
 
 pub returns : goal.returns

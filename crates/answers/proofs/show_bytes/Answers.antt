@@ -1,5 +1,4 @@
 use mathlib.Core.Path.{refl, sym, ◌∙◌}
-use borrow.Author.Rules.{rules}
 use Rattle.answers.proofs.show_bytes.Goals as goal
 
 pub returns-then-is_lent : goal.returns-then-is_lent

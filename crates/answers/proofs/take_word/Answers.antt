@@ -2,7 +2,6 @@ use Rattle.answers.specs.SaidLaws.{packet_outcome}
 use mathlib.Core.Path.{ap, ◌∙◌}
 use Rattle.board.specs.State.{State}
 use Rattle.answers.specs.Bench.{with_state}
-use borrow.Author.Rules.{rules}
 use Rattle.answers.proofs.take_word.Goals as goal
 
 pub returns : goal.returns

@@ -1,7 +1,6 @@
 use mathlib.Core.Path.{sym}
 use lib.ListN.{get_or-eq_default}
 use Rattle.control.specs.Control.{control_numbers}
-use borrow.Author.Rules.{rules}
 use Rattle.asked.proofs.control_number.Goals as goal
 
 pub returns : goal.returns

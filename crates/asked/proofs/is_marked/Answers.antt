@@ -1,7 +1,6 @@
 use mathlib.Core.Path.{sym}
 use borrow.Author.Tests.{le-leb, lt-leb}
 use Rattle.asked.specs.VisitRequests.{marked}
-use borrow.Author.Rules.{rules}
 use Rattle.asked.proofs.is_marked.Goals as goal
 
 pub returns-then-j-lt-REGISTERS : goal.returns-then-j-lt-REGISTERS

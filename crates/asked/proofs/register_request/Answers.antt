@@ -1,5 +1,4 @@
 use borrow.Author.Tests.{lt-ltb, le-ltb}
-use borrow.Author.Rules.{rules}
 use Rattle.asked.proofs.register_request.Goals as goal
 
 pub returns-then-j-lt16 : goal.returns-then-j-lt16

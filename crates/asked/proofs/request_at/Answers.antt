@@ -1,6 +1,5 @@
 use borrow.Author.Tests.{lt-ltb, le-ltb}
 use Rattle.asked.specs.VisitRequests.{request_at}
-use borrow.Author.Rules.{rules}
 use Rattle.asked.proofs.request_at.Goals as goal
 
 pub returns-then-j-lt-REGISTERS : goal.returns-then-j-lt-REGISTERS

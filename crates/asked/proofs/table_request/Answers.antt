@@ -1,5 +1,4 @@
 use mathlib.Core.Path.{sym}
-use borrow.Author.Rules.{rules}
 use Rattle.asked.proofs.table_request.Goals as goal
 
 pub returns-then-begins_block : goal.returns-then-begins_block

@@ -1,7 +1,6 @@
 use Rattle.lent.specs.LentLaws.{lent_part}
 use lib.ListN.{length-take}
 use native.Mathlib.Omega.{arith}
-use borrow.Author.Rules.{rules}
 use Rattle.asking.proofs.ask.Goals as goal
 
 pub slice_bounds-converse-end-2 : goal.slice_bounds-converse-end-2

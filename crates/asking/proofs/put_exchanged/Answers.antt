@@ -1,4 +1,3 @@
-use borrow.Author.Rules.{rules}
 use Rattle.asking.proofs.put_exchanged.Goals as goal
 
 pub returns-in-Ended : goal.returns-in-Ended

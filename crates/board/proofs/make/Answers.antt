@@ -1,5 +1,4 @@
 use borrow.Author.Tests.{le-leb, lt-leb}
-use borrow.Author.Rules.{rules}
 use Rattle.board.proofs.make.Goals as goal
 
 pub returns-then-w-le15 : goal.returns-then-w-le15

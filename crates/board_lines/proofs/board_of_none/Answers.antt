@@ -1,5 +1,4 @@
 use Rattle.board_lines.specs.BoardLines.{board_of_none}
-use borrow.Author.Rules.{rules}
 use Rattle.board_lines.proofs.board_of_none.Goals as goal
 
 pub returns-then-is_same : goal.returns-then-is_same

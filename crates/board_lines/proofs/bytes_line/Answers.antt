@@ -1,10 +1,9 @@
 use native.Mathlib.Omega.{arith}
 use Rattle.words.specs.LineWordLaws.{no_word, word_bounds, next_word, last_end_lem}
 use Prim.Native.Nat.{◌+◌}
-use mathlib.Core.Path.{◌≡◌, refl}
+use mathlib.Core.Path.{refl}
 use lib.ListN.{drop}
-use Rattle.words.specs.LineWords.{gap_length, word_length}
-use borrow.Author.Rules.{rules}
+use Rattle.words.specs.LineWords.{word_length}
 use Rattle.board_lines.proofs.bytes_line.Goals as goal
 
 pub returns-then-line-start : goal.returns-then-line-start

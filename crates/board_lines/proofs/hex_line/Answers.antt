@@ -1,10 +1,8 @@
 use mathlib.Core.Path.{◌≡◌}
 use native.Mathlib.Omega.{arith}
-use borrow.Author.Tests.{not-true, not-false}
 use Prim.Native.Nat.{◌-◌}
 use lib.ListN.{length}
 use Rattle.board_lines.specs.BoardLines.{hex_line}
-use borrow.Author.Rules.{rules}
 use Rattle.board_lines.proofs.hex_line.Goals as goal
 
 pub returns-then-not-is_hex : goal.returns-then-not-is_hex

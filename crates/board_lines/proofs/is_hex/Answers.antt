@@ -1,5 +1,4 @@
 use borrow.Author.Tests.{eq-eqb, ne_eqb, le-leb, lt-leb}
-use borrow.Author.Rules.{rules}
 use Rattle.board_lines.proofs.is_hex.Goals as goal
 
 pub returns-then-digits-lt2 : goal.returns-then-digits-lt2

@@ -1,4 +1,3 @@
-use borrow.Author.Rules.{rules}
 use Rattle.board_lines.proofs.read_form.Goals as goal
 
 pub returns-in-Zero : goal.returns-in-Zero

@@ -1,5 +1,4 @@
 use Rattle.board_lines.specs.BoardLines.{board_line}
-use borrow.Author.Rules.{rules}
 use Rattle.board_lines.proofs.read_line.Goals as goal
 
 pub returns-in-Silent : goal.returns-in-Silent

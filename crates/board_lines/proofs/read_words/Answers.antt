@@ -1,6 +1,5 @@
 use Rattle.words.specs.LineWordLaws.{no_word, word_bounds, next_word}
 use Rattle.board_lines.specs.BoardLines.{board_words}
-use borrow.Author.Rules.{rules}
 use Rattle.board_lines.proofs.read_words.Goals as goal
 
 -- LEFT Need-slice-bounds-is-same-end-2

@@ -8,7 +8,6 @@ use Rattle.laws.specs.StoreLaws.{sets_front}
 use Rattle.building.specs.Building.{building_verdict}
 use mathlib.Core.Path.{◌∙◌}
 use borrow.Author.Tests.{le-leb, lt-leb}
-use borrow.Author.Rules.{rules}
 use Rattle.building.proofs.build.Goals as goal
 
 pub returns-then-count-words : goal.returns-then-count-words

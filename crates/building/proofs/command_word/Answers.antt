@@ -1,6 +1,5 @@
 use native.Mathlib.Omega.{arith}
 use Rattle.building.specs.RequestWordLaws.{command_word_clear}
-use borrow.Author.Rules.{rules}
 use Rattle.building.proofs.command_word.Goals as goal
 
 pub overflow_add-result : goal.overflow_add-result

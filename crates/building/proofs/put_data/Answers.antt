@@ -1,5 +1,4 @@
 use native.Mathlib.Omega.{arith}
-use borrow.Author.Rules.{rules}
 use Rattle.building.proofs.put_data.Goals as goal
 
 pub bounds-words-at : goal.bounds-words-at

@@ -1,7 +1,6 @@
 use native.Mathlib.Omega.{arith}
 use lib.ListN.{length-set}
 use native.Mathlib.Numerals.{add-one}
-use borrow.Author.Rules.{rules}
 use Rattle.building.proofs.put_halves.Goals as goal
 
 pub bounds-words-at-2 : goal.bounds-words-at-2

@@ -1,6 +1,5 @@
 use native.Mathlib.Omega.{arith}
 use Rattle.building.specs.RequestWordLaws.{data_length}
-use borrow.Author.Rules.{rules}
 use Rattle.building.proofs.put_operands.Goals as goal
 
 pub put_halves-requires : goal.put_halves-requires

@@ -1,7 +1,6 @@
 use native.Mathlib.Omega.{arith}
 use Rattle.command.specs.CommandLaws.{size_words_bound}
 use Rattle.building.specs.RequestWordLaws.{data_length}
-use borrow.Author.Rules.{rules}
 use Rattle.building.proofs.word_count.Goals as goal
 
 pub overflow_add-result : goal.overflow_add-result

@@ -1,5 +1,3 @@
-use mathlib.Core.Path.{sym, ◌∙◌, ap}
-use borrow.Author.Rules.{rules}
 use Rattle.common_lines.proofs.is_quit.Goals as goal
 
 pub returns-in-Help : goal.returns-in-Help

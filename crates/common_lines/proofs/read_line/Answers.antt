@@ -1,5 +1,4 @@
 use Rattle.common_lines.specs.CommonLines.{common_line}
-use borrow.Author.Rules.{rules}
 use Rattle.common_lines.proofs.read_line.Goals as goal
 
 pub returns-in-Silent : goal.returns-in-Silent

@@ -1,5 +1,4 @@
 use Rattle.common_lines.specs.CommonLines.{common_name}
-use borrow.Author.Rules.{rules}
 use Rattle.common_lines.proofs.read_name.Goals as goal
 
 pub returns-then-is_same : goal.returns-then-is_same

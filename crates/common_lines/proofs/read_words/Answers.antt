@@ -4,7 +4,6 @@ use mathlib.Core.Path.{refl}
 use lib.ListN.{drop}
 use Rattle.words.specs.LineWords.{word_length}
 use Rattle.words.specs.LineWordLaws.{no_word, word_bounds, next_word}
-use borrow.Author.Rules.{rules}
 use Rattle.common_lines.proofs.read_words.Goals as goal
 
 pub returns-then-line-start : goal.returns-then-line-start

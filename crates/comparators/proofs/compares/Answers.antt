@@ -1,5 +1,4 @@
 use Rattle.comparators.specs.Comparators.{comparator}
-use borrow.Author.Rules.{rules}
 use Rattle.comparators.proofs.compares.Goals as goal
 
 pub returns : goal.returns

@@ -1,4 +1,3 @@
-use borrow.Author.Rules.{rules}
 use Rattle.comparators.proofs.holds_data.Goals as goal
 
 pub returns : goal.returns

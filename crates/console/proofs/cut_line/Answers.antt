@@ -1,13 +1,10 @@
-use Prim.Native.Nat.{◌+◌, ◌-◌, ◌≤◌}
-use mathlib.Core.Path.{◌≡◌, refl, ap, sym, ◌∙◌}
+use Prim.Native.Nat.{◌-◌}
+use mathlib.Core.Path.{refl, ap, sym, ◌∙◌}
 use native.Mathlib.Omega.{arith}
-use lib.ListN.{length, take, drop}
-use Rattle.console.specs.InputLines.{first_line, has_ended}
+use lib.ListN.{length}
 use Rattle.console.specs.InputLineLaws.{line_goes_on, line_stops, line_out}
-use Rattle.console.specs.Holding.{held_on}
 use Rattle.console.specs.HoldingLaws.{further}
 use borrow.Author.Tests.{ne_eqb}
-use borrow.Author.Rules.{rules}
 use Rattle.console.proofs.cut_line.Goals as goal
 
 pub loop-i-init : goal.loop-i-init

@@ -1,13 +1,8 @@
 use Prim.Native.Nat.{◌+◌, ◌-◌, ◌≤◌}
-use mathlib.Core.Path.{◌≡◌, refl, ap, sym, ◌∙◌}
-use native.Mathlib.Omega.{arith}
+use mathlib.Core.Path.{◌≡◌}
 use lib.ListN.{length, take, drop}
 use Rattle.console.specs.InputLines.{first_line, has_ended}
-use Rattle.console.specs.InputLineLaws.{line_goes_on, line_stops, line_out}
 use Rattle.console.specs.Holding.{held_on}
-use Rattle.console.specs.HoldingLaws.{further}
-use borrow.Author.Tests.{ne_eqb}
-use borrow.Author.Rules.{rules}
 use Rattle.console.proofs.cut_line.Given as goal
 
 abbrev pub invariant-loop-i : goal.invariant-loop-i

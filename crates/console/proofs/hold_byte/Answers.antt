@@ -4,7 +4,6 @@ use mathlib.Core.Path.{refl}
 use native.Mathlib.Omega.{arith}
 use lib.Seq.{drop-set-lt}
 use Rattle.console.specs.HoldingLaws.{hold_room, hold_gap, hold_none, hold_nothing}
-use borrow.Author.Rules.{rules}
 use Rattle.console.proofs.hold_byte.Goals as goal
 
 pub returns-then-before-line : goal.returns-then-before-line

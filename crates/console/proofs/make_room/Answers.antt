@@ -1,5 +1,4 @@
 use borrow.Author.Tests.{lt-ltb, le-ltb}
-use borrow.Author.Rules.{rules}
 use Rattle.console.proofs.make_room.Goals as goal
 
 pub returns-then-at-text : goal.returns-then-at-text

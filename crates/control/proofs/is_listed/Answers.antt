@@ -1,4 +1,3 @@
-use borrow.Author.Rules.{rules}
 use Rattle.control.proofs.is_listed.Goals as goal
 
 pub returns : goal.returns

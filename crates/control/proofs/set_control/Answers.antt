@@ -1,6 +1,5 @@
 use Rattle.control.specs.Control.{control_written}
 use borrow.Author.Tests.{le-ltb, lt-ltb}
-use borrow.Author.Rules.{rules}
 use Rattle.control.proofs.set_control.Goals as goal
 
 pub returns-then-i-lt10 : goal.returns-then-i-lt10

@@ -1,13 +1,9 @@
-use Prim.Native.Nat.{◌<◌, ◌≤◌}
-use lib.ListN.{length}
-use mathlib.Core.Path.{◌≡◌, refl, ◌∙◌}
+use mathlib.Core.Path.{refl, ◌∙◌}
 use native.Mathlib.Omega.{arith}
 use Rattle.course.specs.Course.{opening}
 use Rattle.console.specs.InputLines.{most_lines}
-use Rattle.console.specs.LineReading.{unread_of}
 use Rattle.console.specs.LinesServedLaws.{comes_to_begin}
-use Rattle.course.specs.CourseLaws.{Came, line_comes, quit_comes, last_comes, none_comes}
-use borrow.Author.Rules.{rules}
+use Rattle.course.specs.CourseLaws.{line_comes, quit_comes, last_comes, none_comes}
 use Rattle.conversation.proofs.run.Goals as goal
 
 pub loop-budget-init : goal.loop-budget-init

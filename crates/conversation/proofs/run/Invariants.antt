@@ -1,13 +1,8 @@
-use Prim.Native.Nat.{◌<◌, ◌≤◌}
 use lib.ListN.{length}
-use mathlib.Core.Path.{◌≡◌, refl, ◌∙◌}
-use native.Mathlib.Omega.{arith}
+use mathlib.Core.Path.{◌≡◌}
 use Rattle.course.specs.Course.{opening}
-use Rattle.console.specs.InputLines.{most_lines}
 use Rattle.console.specs.LineReading.{unread_of}
-use Rattle.console.specs.LinesServedLaws.{comes_to_begin}
-use Rattle.course.specs.CourseLaws.{Came, line_comes, quit_comes, last_comes, none_comes}
-use borrow.Author.Rules.{rules}
+use Rattle.course.specs.CourseLaws.{Came}
 use Rattle.conversation.proofs.run.Given as goal
 
 abbrev pub invariant-loop-budget : goal.invariant-loop-budget

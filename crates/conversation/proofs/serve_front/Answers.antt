@@ -1,6 +1,5 @@
 use lib.ListN.{length-take}
 use native.Mathlib.Omega.{arith}
-use borrow.Author.Rules.{rules}
 use Rattle.conversation.proofs.serve_front.Goals as goal
 
 pub slice_bounds-serve-end : goal.slice_bounds-serve-end

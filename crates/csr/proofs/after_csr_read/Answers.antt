@@ -1,4 +1,3 @@
-use borrow.Author.Rules.{rules}
 use Rattle.csr.proofs.after_csr_read.Goals as goal
 
 pub returns : goal.returns

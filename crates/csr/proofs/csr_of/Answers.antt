@@ -1,5 +1,4 @@
 use Rattle.csr.specs.Csr.{csr_value}
-use borrow.Author.Rules.{rules}
 use Rattle.csr.proofs.csr_of.Goals as goal
 
 pub returns : goal.returns

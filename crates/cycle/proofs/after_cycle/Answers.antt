@@ -1,7 +1,6 @@
 use native.Mathlib.Omega.{arith}
 use borrow.Author.Tests.{lt-ltb, le-ltb}
 use Rattle.cycle.specs.Cycle.{after}
-use borrow.Author.Rules.{rules}
 use Rattle.cycle.proofs.after_cycle.Goals as goal
 
 pub returns-then-pst-lt8 : goal.returns-then-pst-lt8

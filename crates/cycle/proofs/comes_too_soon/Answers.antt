@@ -1,6 +1,5 @@
 use mathlib.Core.Path.{sym, ◌∙◌}
 use Rattle.cycle.proofs.CycleLaws.{two_or_more, never}
-use borrow.Author.Rules.{rules}
 use Rattle.cycle.proofs.comes_too_soon.Goals as goal
 
 pub returns-then-is_marker : goal.returns-then-is_marker

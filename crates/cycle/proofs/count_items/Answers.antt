@@ -5,7 +5,6 @@ use native.Mathlib.Omega.{arith}
 use lib.Dec.{eqb}
 use mir.Val.{bool_byte}
 use Rattle.cycle.specs.CycleCountLaws.{one, one_le, items_counted}
-use borrow.Author.Rules.{rules}
 use Rattle.cycle.proofs.count_items.Goals as goal
 
 as_number : (t : Bool) → bool_byte t ≡ one t

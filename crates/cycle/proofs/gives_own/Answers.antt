@@ -2,7 +2,6 @@ use native.Mathlib.Omega.{arith}
 use borrow.Author.Tests.{lt-ltb, le-ltb}
 use Rattle.cycle.specs.Cycle.{gives_own}
 use Rattle.cycle.proofs.CycleLaws.{marker_not_single}
-use borrow.Author.Rules.{rules}
 use Rattle.cycle.proofs.gives_own.Goals as goal
 
 pub returns-then-pst-lt8 : goal.returns-then-pst-lt8

@@ -1,6 +1,5 @@
 use mathlib.Core.Path.{sym}
 use Rattle.cycle.proofs.CycleLaws.{single_bit, marker_not_single}
-use borrow.Author.Rules.{rules}
 use Rattle.cycle.proofs.is_single.Goals as goal
 
 pub returns-then-pst-lt8 : goal.returns-then-pst-lt8

@@ -1,8 +1,7 @@
-use mathlib.Core.Path.{◌≡◌, sym, ◌∙◌}
-use Prim.Native.Nat.{◌+◌, ◌-◌, ◌≤◌}
+use mathlib.Core.Path.{sym, ◌∙◌}
+use Prim.Native.Nat.{◌+◌, ◌-◌}
 use native.Mathlib.Omega.{arith}
 use borrow.Author.Rules.{rules}
-use Rattle.cycle.specs.Cycle.{value}
 use Rattle.cycle.proofs.CycleLaws.{value_where, value_of_none, value_before, value_leaves_room}
 use Rattle.cycle.proofs.read_value.Goals as goal
 

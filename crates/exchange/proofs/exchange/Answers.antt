@@ -3,7 +3,6 @@ use Rattle.board.specs.State.{state_of}
 use Rattle.exchange.specs.Exchange.{told_exchange}
 use Rattle.exchange.specs.TypedLaws.{typed_is_sound}
 use Rattle.exchange.specs.ExchangeLaws.{accepted_is_within}
-use borrow.Author.Rules.{rules}
 use Rattle.exchange.proofs.exchange.Goals as goal
 
 pub rest_and_converse-requires : goal.rest_and_converse-requires

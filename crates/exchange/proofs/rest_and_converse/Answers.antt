@@ -1,7 +1,6 @@
 use mathlib.Core.Path.{◌∙◌}
 use native.Mathlib.Omega.{arith}
 use Rattle.exchange.specs.ExchangeLaws.{rested_is_at_rest, conversed_as_promised}
-use borrow.Author.Rules.{rules}
 use Rattle.exchange.proofs.rest_and_converse.Goals as goal
 
 pub converse-talked-requires : goal.converse-talked-requires

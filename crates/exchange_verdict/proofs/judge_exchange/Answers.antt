@@ -1,6 +1,5 @@
 use borrow.Author.Tests.{le-leb, lt-leb}
 use Rattle.exchange_verdict.specs.ExchangeVerdict.{exchange_verdict}
-use borrow.Author.Rules.{rules}
 use Rattle.exchange_verdict.proofs.judge_exchange.Goals as goal
 
 pub returns-then-memory-le65536 : goal.returns-then-memory-le65536

@@ -1,5 +1,4 @@
 use borrow.Author.Tests.{eq-eqb, ne_eqb}
-use borrow.Author.Rules.{rules}
 use Rattle.faults.proofs.after_word.Goals as goal
 
 pub returns-then-word-eq0 : goal.returns-then-word-eq0

@@ -1,4 +1,3 @@
-use borrow.Author.Rules.{rules}
 use Rattle.faults.proofs.after_work.Goals as goal
 
 pub returns-in-Failed : goal.returns-in-Failed

@@ -1,4 +1,3 @@
-use borrow.Author.Rules.{rules}
 use Rattle.faults.proofs.of_bus_error.Goals as goal
 
 pub returns-in-Missing : goal.returns-in-Missing

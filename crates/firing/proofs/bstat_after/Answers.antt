@@ -1,6 +1,5 @@
 use Rattle.firing.specs.Firing.{bstat_after}
 use borrow.Author.Tests.{eq-eqb, ne_eqb}
-use borrow.Author.Rules.{rules}
 use Rattle.firing.proofs.bstat_after.Goals as goal
 
 pub returns-then-two : goal.returns-then-two

@@ -1,4 +1,3 @@
-use borrow.Author.Rules.{rules}
 use Rattle.firing.proofs.capture.Goals as goal
 
 pub returns-then-sync : goal.returns-then-sync

@@ -1,5 +1,4 @@
 use Rattle.firing.specs.Firing.{firing}
-use borrow.Author.Rules.{rules}
 use Rattle.firing.proofs.fire.Goals as goal
 
 pub returns : goal.returns

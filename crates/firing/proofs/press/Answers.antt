@@ -1,5 +1,4 @@
 use Rattle.firing.specs.Breakpoint.{pressed}
-use borrow.Author.Rules.{rules}
 use Rattle.firing.proofs.press.Goals as goal
 
 pub returns : goal.returns

@@ -1,5 +1,4 @@
 use Rattle.firing.specs.Firing.{seen}
-use borrow.Author.Rules.{rules}
 use Rattle.firing.proofs.see.Goals as goal
 
 pub returns : goal.returns

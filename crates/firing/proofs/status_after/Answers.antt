@@ -1,5 +1,4 @@
 use Rattle.firing.specs.Firing.{status_after}
-use borrow.Author.Rules.{rules}
 use Rattle.firing.proofs.status_after.Goals as goal
 
 pub returns : goal.returns

@@ -1,5 +1,4 @@
 use Rattle.text.specs.TextLaws.{◌then◌}
-use borrow.Author.Rules.{rules}
 use Rattle.gateway.proofs.add_read.Goals as goal
 
 pub returns : goal.returns

@@ -1,5 +1,4 @@
 use mathlib.Core.Path.{refl}
-use borrow.Author.Rules.{rules}
 use Rattle.gateway.proofs.add_result.Goals as goal
 
 pub returns-in-Given : goal.returns-in-Given

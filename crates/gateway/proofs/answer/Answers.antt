@@ -1,6 +1,5 @@
 use mathlib.Core.List.{[]}
 use mathlib.Core.Path.{refl}
-use borrow.Author.Rules.{rules}
 use Rattle.gateway.proofs.answer.Goals as goal
 
 pub returns-in-Unclear : goal.returns-in-Unclear

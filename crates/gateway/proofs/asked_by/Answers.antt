@@ -1,5 +1,4 @@
 use borrow.Author.Tests.{lt-ltb, le-ltb, eq-eqb, ne_eqb}
-use borrow.Author.Rules.{rules}
 use Rattle.gateway.proofs.asked_by.Goals as goal
 
 pub returns-then-count-lt2 : goal.returns-then-count-lt2

@@ -1,6 +1,5 @@
 use native.Mathlib.Omega.{arith}
 use Rattle.gateway.specs.GatewayLaws.{held_visit, put_shows}
-use borrow.Author.Rules.{rules}
 use Rattle.gateway.proofs.hold_visit.Goals as goal
 
 pub take_lines-over-requires : goal.take_lines-over-requires

@@ -1,5 +1,4 @@
 use Rattle.console.specs.LineWritingLaws.{line_laid}
-use borrow.Author.Rules.{rules}
 use Rattle.gateway.proofs.send.Goals as goal
 
 pub returns-in-Send : goal.returns-in-Send

@@ -1,6 +1,5 @@
 use lib.ListN.{length-take}
 use native.Mathlib.Omega.{arith}
-use borrow.Author.Rules.{rules}
 use Rattle.gateway.proofs.take_front.Goals as goal
 
 pub slice_bounds-take_line-end : goal.slice_bounds-take_line-end

@@ -1,12 +1,9 @@
-use borrow.Author.Rules.{rules}
-use lib.ListN.{length}
-use mathlib.Core.Path.{◌≡◌, refl, sym, ◌∙◌}
+use mathlib.Core.Path.{refl, sym, ◌∙◌}
 use native.Mathlib.Omega.{arith}
 use Rattle.console.specs.InputLines.{most_lines}
-use Rattle.console.specs.LineReading.{unread_of}
 use Rattle.console.specs.LinesServedLaws.{comes_to_begin}
 use Rattle.gateway.specs.Visiting.{standing}
-use Rattle.gateway.specs.VisitingLaws.{Came, over_comes, line_comes, last_comes, none_comes}
+use Rattle.gateway.specs.VisitingLaws.{over_comes, line_comes, last_comes, none_comes}
 use Rattle.gateway.proofs.take_lines.Goals as goal
 
 pub loop-budget-init : goal.loop-budget-init

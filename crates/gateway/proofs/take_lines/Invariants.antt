@@ -1,12 +1,8 @@
-use borrow.Author.Rules.{rules}
 use lib.ListN.{length}
-use mathlib.Core.Path.{◌≡◌, refl, sym, ◌∙◌}
-use native.Mathlib.Omega.{arith}
-use Rattle.console.specs.InputLines.{most_lines}
+use mathlib.Core.Path.{◌≡◌}
 use Rattle.console.specs.LineReading.{unread_of}
-use Rattle.console.specs.LinesServedLaws.{comes_to_begin}
 use Rattle.gateway.specs.Visiting.{standing}
-use Rattle.gateway.specs.VisitingLaws.{Came, over_comes, line_comes, last_comes, none_comes}
+use Rattle.gateway.specs.VisitingLaws.{Came}
 use Rattle.gateway.proofs.take_lines.Given as goal
 
 abbrev pub invariant-loop-budget : goal.invariant-loop-budget

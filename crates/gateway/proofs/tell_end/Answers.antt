@@ -1,5 +1,4 @@
 use Rattle.text.specs.TextLaws.{◌then◌}
-use borrow.Author.Rules.{rules}
 use Rattle.gateway.proofs.tell_end.Goals as goal
 
 pub returns-in-Send : goal.returns-in-Send

@@ -1,11 +1,10 @@
 use borrow.Author.Rules.{rules}
-use Prim.Native.Nat.{◌+◌, ◌-◌, ◌≤◌}
+use Prim.Native.Nat.{◌+◌, ◌-◌}
 use native.Mathlib.Omega.{arith}
 use native.Mathlib.Nat.{sub-zero}
 use mathlib.Core.Path.{◌≡◌, refl}
-use mathlib.Core.List.{[], ◌∷◌, ◌++◌, append_assoc}
-use lib.ListN.{length}
-use Rattle.console.specs.GatheringLaws.{Gathering, gathers_none, gathers_line, gathers_all}
+use mathlib.Core.List.{[], ◌∷◌, append_assoc}
+use Rattle.console.specs.GatheringLaws.{gathers_none, gathers_line, gathers_all}
 use Rattle.visit.specs.HandedOver.{handed_over}
 use Rattle.visit_lines.specs.VisitLines.{result_line, result_lines, read_line}
 use Rattle.visit_lines.specs.VisitLineLaws.{results_on}

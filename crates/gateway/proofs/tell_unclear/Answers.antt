@@ -1,5 +1,4 @@
 use Rattle.text.specs.TextLaws.{◌then◌}
-use borrow.Author.Rules.{rules}
 use Rattle.gateway.proofs.tell_unclear.Goals as goal
 
 pub returns : goal.returns

@@ -1,5 +1,4 @@
 use mathlib.Core.List.{[]}
-use borrow.Author.Rules.{rules}
 use Rattle.gateway.proofs.visit_gateway.Goals as goal
 
 pub returns-in-Refused : goal.returns-in-Refused

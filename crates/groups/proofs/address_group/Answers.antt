@@ -1,5 +1,4 @@
 use Rattle.groups.specs.Groups.{address_group}
-use borrow.Author.Rules.{rules}
 use Rattle.groups.proofs.address_group.Goals as goal
 
 pub returns : goal.returns

@@ -1,5 +1,4 @@
 use Rattle.groups.specs.Groups.{attribute_agrees}
-use borrow.Author.Rules.{rules}
 use Rattle.groups.proofs.agrees_attribute.Goals as goal
 
 pub returns : goal.returns

@@ -1,4 +1,3 @@
-use borrow.Author.Rules.{rules}
 use Rattle.groups.proofs.holds_address.Goals as goal
 
 pub returns-in-Idle : goal.returns-in-Idle

@@ -1,5 +1,4 @@
 use Rattle.groups.specs.Groups.{address_matches}
-use borrow.Author.Rules.{rules}
 use Rattle.groups.proofs.matches_address.Goals as goal
 
 pub returns : goal.returns

@@ -1,5 +1,4 @@
 use Rattle.groups.specs.Groups.{pc_group}
-use borrow.Author.Rules.{rules}
 use Rattle.groups.proofs.pc_group.Goals as goal
 
 pub returns : goal.returns

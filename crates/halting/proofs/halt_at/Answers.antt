@@ -1,4 +1,3 @@
-use borrow.Author.Rules.{rules}
 use Rattle.halting.proofs.halt_at.Goals as goal
 
 pub returns-then-is_allowed : goal.returns-then-is_allowed

@@ -1,5 +1,4 @@
 use Rattle.halting.specs.Halting.{halting}
-use borrow.Author.Rules.{rules}
 use Rattle.halting.proofs.judge.Goals as goal
 
 pub returns-in-Absent : goal.returns-in-Absent

@@ -1,4 +1,3 @@
-use borrow.Author.Rules.{rules}
 use Rattle.index.proofs.list_from.Goals as goal
 
 pub returns : goal.returns

@@ -1,6 +1,5 @@
 use Rattle.languages.specs.Heard.{after, said_to}
 use mathlib.Core.Path.{refl}
-use borrow.Author.Rules.{rules}
 use Rattle.languages.proofs.answer.Goals as goal
 
 pub returns-in-OfBench : goal.returns-in-OfBench

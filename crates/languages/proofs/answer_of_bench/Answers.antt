@@ -1,5 +1,4 @@
 use Rattle.languages.specs.Heard.{after, said_to}
-use borrow.Author.Rules.{rules}
 use Rattle.languages.proofs.answer_of_bench.Goals as goal
 
 pub returns-in-Board : goal.returns-in-Board

@@ -1,5 +1,4 @@
 use Rattle.languages.specs.Heard.{heard}
-use borrow.Author.Rules.{rules}
 use Rattle.languages.proofs.hear.Goals as goal
 
 pub returns-in-Help : goal.returns-in-Help

@@ -1,5 +1,4 @@
 use Rattle.languages.specs.Heard.{heard_own}
-use borrow.Author.Rules.{rules}
 use Rattle.languages.proofs.hear_own.Goals as goal
 
 pub returns-in-StandIn : goal.returns-in-StandIn

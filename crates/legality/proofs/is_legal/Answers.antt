@@ -1,4 +1,3 @@
-use borrow.Author.Rules.{rules}
 use Rattle.legality.proofs.is_legal.Goals as goal
 
 pub returns-then-standing : goal.returns-then-standing

@@ -2,7 +2,6 @@ use Prim.Native.Nat.{◌+◌, ◌*◌}
 use mathlib.Core.Path.{sym}
 use native.Mathlib.Omega.{arith}
 use Rattle.numbers.specs.NumberLaws.{byte_out}
-use borrow.Author.Rules.{rules}
 use Rattle.lent.proofs.byte_after.Goals as goal
 
 pub returns-then-line-start : goal.returns-then-line-start

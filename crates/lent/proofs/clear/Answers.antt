@@ -1,9 +1,6 @@
-use Prim.Native.Nat.{◌+◌, ◌≤◌, ◌-◌}
-use lib.ListN.{length}
-use lib.Seq.{sets}
+use Prim.Native.Nat.{◌+◌, ◌-◌}
 use mathlib.Core.Path.{◌≡◌, refl, ◌∙◌}
 use native.Mathlib.Omega.{arith}
-use Rattle.lent.specs.Lent.{zeros}
 use Rattle.lent.specs.LentLaws.{put_next}
 use borrow.Author.Rules.{rules}
 use Rattle.lent.proofs.clear.Goals as goal

@@ -1,11 +1,8 @@
-use Prim.Native.Nat.{◌+◌, ◌≤◌, ◌-◌}
+use Prim.Native.Nat.{◌≤◌, ◌-◌}
 use lib.ListN.{length}
 use lib.Seq.{sets}
-use mathlib.Core.Path.{◌≡◌, refl, ◌∙◌}
-use native.Mathlib.Omega.{arith}
+use mathlib.Core.Path.{◌≡◌}
 use Rattle.lent.specs.Lent.{zeros}
-use Rattle.lent.specs.LentLaws.{put_next}
-use borrow.Author.Rules.{rules}
 use Rattle.lent.proofs.clear.Given as goal
 
 abbrev pub invariant-loop-i : goal.invariant-loop-i

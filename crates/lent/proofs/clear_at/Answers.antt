@@ -1,6 +1,5 @@
 use mathlib.Core.Path.{sym}
 use lib.Seq.{set_out}
-use borrow.Author.Rules.{rules}
 use Rattle.lent.proofs.clear_at.Goals as goal
 
 pub returns-else-i-memory : goal.returns-else-i-memory

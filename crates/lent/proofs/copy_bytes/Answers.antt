@@ -1,10 +1,7 @@
-use Prim.Native.Nat.{◌+◌, ◌*◌, ◌≤◌, ◌-◌}
-use lib.ListN.{length}
-use lib.Seq.{sets}
+use Prim.Native.Nat.{◌+◌, ◌*◌, ◌-◌}
 use mathlib.Core.Path.{◌≡◌, refl, ◌∙◌}
 use native.Mathlib.Omega.{arith}
 use Rattle.numbers.specs.Numbers.{byte_at}
-use Rattle.lent.specs.Lent.{bytes_from}
 use Rattle.lent.specs.LentLaws.{put_next}
 use borrow.Author.Rules.{rules}
 use Rattle.lent.proofs.copy_bytes.Goals as goal

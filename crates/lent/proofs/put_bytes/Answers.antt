@@ -1,6 +1,4 @@
 use mathlib.Core.Path.{sym, ◌∙◌}
-use borrow.Author.Rules.{rules}
-use Rattle.lent.proofs.put_bytes.Lts as lts
 use Rattle.lent.proofs.put_bytes.Goals as goal
 
 pub returns-then-is_lent : goal.returns-then-is_lent

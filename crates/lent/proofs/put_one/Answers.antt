@@ -4,7 +4,6 @@ use native.Mathlib.Omega.{arith}
 use lib.Seq.{set_out}
 use Rattle.numbers.specs.Numbers.{byte_at}
 use Rattle.lent.specs.LentLaws.{byte_small}
-use borrow.Author.Rules.{rules}
 use Rattle.lent.proofs.put_one.Goals as goal
 
 pub returns-then-i-memory : goal.returns-then-i-memory

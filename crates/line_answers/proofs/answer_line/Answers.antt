@@ -2,7 +2,6 @@ use Rattle.text.specs.TextLaws.{nothing}
 use Rattle.answers.specs.Bench.{leaves}
 use Rattle.line_answers.specs.LineSaid.{said}
 use mathlib.Core.Path.{refl}
-use borrow.Author.Rules.{rules}
 use Rattle.line_answers.proofs.answer_line.Goals as goal
 
 pub returns-in-Nothing : goal.returns-in-Nothing

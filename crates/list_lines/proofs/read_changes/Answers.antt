@@ -2,7 +2,6 @@ use native.Mathlib.Omega.{arith}
 use lib.ListN.{drop, length-drop}
 use Rattle.list_lines.specs.ListLinesLaws.{lines_used}
 use Rattle.list_lines.specs.ListInLaws.{all_lines, too_few}
-use borrow.Author.Rules.{rules}
 use Rattle.list_lines.proofs.read_changes.Goals as goal
 
 pub overflow_add-result : goal.overflow_add-result

@@ -1,12 +1,8 @@
 -- The loop's invariant: what the bytes from place i on come to is what all of them come to.
-use mathlib.Core.Path.{◌≡◌, refl, sym, ◌∙◌}
+use mathlib.Core.Path.{◌≡◌}
 use Prim.Native.Nat.{◌≤◌, ◌-◌}
-use native.Mathlib.Omega.{arith}
-use borrow.Author.Rules.{rules}
-use borrow.Author.Tests.{eq-eqb, ne_eqb, lt-ltb, le-ltb}
 use lib.ListN.{length, drop}
 use Rattle.list_lines.specs.ListLines.{digits}
-use Rattle.list_lines.specs.ListLinesLaws.{digits_here, digits_none}
 use Rattle.list_lines.proofs.read_digits.Given as goal
 
 abbrev pub invariant-loop-i : goal.invariant-loop-i

@@ -3,7 +3,6 @@ use native.Mathlib.Omega.{arith}
 use lib.ListN.{length-drop}
 use Rattle.list_lines.specs.ListLines.{line_word}
 use Rattle.list_lines.specs.ListLinesLaws.{number_took}
-use borrow.Author.Rules.{rules}
 use Rattle.list_lines.proofs.read_line.Goals as goal
 
 pub returns-in_default : goal.returns-in_default

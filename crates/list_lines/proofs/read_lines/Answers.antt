@@ -1,9 +1,9 @@
-use mathlib.Core.Path.{◌≡◌, refl, sym, ◌∙◌}
-use Prim.Native.Nat.{◌-◌, ◌≤◌}
+use mathlib.Core.Path.{refl, sym, ◌∙◌}
+use Prim.Native.Nat.{◌-◌}
 use native.Mathlib.Omega.{arith}
 use borrow.Author.Rules.{rules}
-use lib.ListN.{length, length-drop}
-use Rattle.list_lines.specs.ListLinesLaws.{line_took, Remaining, all_remain, next_remain, stops, ends}
+use lib.ListN.{length-drop}
+use Rattle.list_lines.specs.ListLinesLaws.{line_took, all_remain, next_remain, stops, ends}
 use Rattle.list_lines.proofs.read_lines.Goals as goal
 
 pub loop-k-init : goal.loop-k-init

@@ -1,10 +1,8 @@
 -- The loop's invariant: the lines from line k on, and those before, are all of them.
-use mathlib.Core.Path.{◌≡◌, refl, sym, ◌∙◌}
+use mathlib.Core.Path.{◌≡◌}
 use Prim.Native.Nat.{◌-◌, ◌≤◌}
-use native.Mathlib.Omega.{arith}
-use borrow.Author.Rules.{rules}
-use lib.ListN.{length, length-drop}
-use Rattle.list_lines.specs.ListLinesLaws.{line_took, Remaining, all_remain, next_remain, stops, ends}
+use lib.ListN.{length}
+use Rattle.list_lines.specs.ListLinesLaws.{Remaining}
 use Rattle.list_lines.proofs.read_lines.Given as goal
 
 abbrev pub invariant-loop-k : goal.invariant-loop-k

@@ -3,7 +3,6 @@ use native.Mathlib.Omega.{arith}
 use lib.ListN.{length, length-drop}
 use Rattle.list_lines.specs.ListLines.{named}
 use Rattle.list_lines.specs.ListLinesLaws.{number_took}
-use borrow.Author.Rules.{rules}
 use Rattle.list_lines.proofs.read_named.Goals as goal
 
 pub overflow_add-result : goal.overflow_add-result

@@ -1,6 +1,5 @@
 use mathlib.Core.Path.{sym, ◌∙◌}
 use Rattle.list_lines.specs.ListLinesLaws.{no_digit, ended_at_once, some_digits}
-use borrow.Author.Rules.{rules}
 use Rattle.list_lines.proofs.read_number.Goals as goal
 
 pub returns-then-bytes-eq0 : goal.returns-then-bytes-eq0

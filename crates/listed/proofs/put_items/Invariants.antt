@@ -1,11 +1,8 @@
-use Prim.Native.Nat.{◌≤◌, ◌-◌, ◌*◌, ◌/◌}
-use mathlib.Core.Path.{◌≡◌, refl}
-use native.Mathlib.Omega.{arith}
-use borrow.Author.Rules.{rules}
+use Prim.Native.Nat.{◌≤◌, ◌-◌, ◌*◌}
+use mathlib.Core.Path.{◌≡◌}
 use lib.ListN.{length, drop}
-use Rattle.text.specs.TextLaws.{◌then◌, Remains, all_remains, rest_remains, none_remains}
+use Rattle.text.specs.TextLaws.{Remains}
 use Rattle.listed.specs.Listed.{items_text}
-use Rattle.listed.specs.ListedLaws.{items_on, items_out}
 use Rattle.listed.proofs.put_items.Given as goal
 
 abbrev pub invariant-loop-k : goal.invariant-loop-k

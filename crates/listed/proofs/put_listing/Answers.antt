@@ -3,7 +3,6 @@ use native.Mathlib.Omega.{arith}
 use lib.Seq.{length-take-le}
 use Rattle.text.specs.TextLaws.{◌then◌}
 use Rattle.listed.specs.ListedLaws.{refused_text, listed_text_lem, listed_room, listed_words}
-use borrow.Author.Rules.{rules}
 use Rattle.listed.proofs.put_listing.Goals as goal
 
 pub overflow_mul-end : goal.overflow_mul-end
@@ -21,7 +20,7 @@ returns-in-Refused c = let met = c.list_trace.ensures in
     (rw (refused_text _ _ _ _ met _ _ c.in-Refused.is) text, met.words)
 
 pub returns-in-Items : goal.returns-in-Items
-returns-in-Items c = let met = c.list_trace.ensures in 
+returns-in-Items c = let met = c.list_trace.ensures in
     let head = c.put_head-at.ensures in
     let items = rw (listed_words _ _ _ _ met _ c.in-Items.is) at c.put_items.ensures in
     (rw (listed_text_lem _ _ _ _ met _ c.in-Items.is) (head then items), met.words)

@@ -1,5 +1,4 @@
 use Rattle.listing.specs.ListingLaws.{whole_meets}
-use borrow.Author.Rules.{rules}
 use Rattle.listing.proofs.list_trace.Goals as goal
 
 pub returns : goal.returns

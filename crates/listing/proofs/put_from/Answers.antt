@@ -1,10 +1,9 @@
-use mathlib.Core.Path.{◌≡◌, refl, ap}
-use Prim.Native.Nat.{◌+◌, ◌-◌}
+use mathlib.Core.Path.{refl, ap}
+use Prim.Native.Nat.{◌+◌}
 use native.Mathlib.Nat.{zero-add}
 use native.Mathlib.Omega.{arith}
 use borrow.Author.Rules.{rules}
 use lib.ListN.{length, length-append}
-use lib.Seq.{sets}
 use Rattle.cycle.specs.Cycle.{pst, after}
 use Rattle.cycle.specs.CycleItems.{items_at}
 use Rattle.trace.specs.Items.{items_to_end, words}

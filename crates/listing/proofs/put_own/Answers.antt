@@ -1,6 +1,5 @@
 use mathlib.Core.Path.{refl, sym, ◌∙◌}
 use native.Mathlib.Nat.{add-zero}
-use borrow.Author.Rules.{rules}
 use Rattle.listing.proofs.put_own.Goals as goal
 
 pub put_item-requires : goal.put_item-requires

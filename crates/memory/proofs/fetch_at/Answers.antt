@@ -1,7 +1,6 @@
 use borrow.Author.Tests.{leb-true}
 use mathlib.Core.Path.{sym, ◌∙◌}
 use Rattle.memory.specs.Memory.{fetched}
-use borrow.Author.Rules.{rules}
 use Rattle.memory.proofs.fetch_at.Goals as goal
 
 pub value_at-requires : goal.value_at-requires

@@ -1,4 +1,3 @@
-use borrow.Author.Rules.{rules}
 use Rattle.memory.proofs.is_present.Goals as goal
 
 pub returns : goal.returns

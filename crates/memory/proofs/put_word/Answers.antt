@@ -1,6 +1,5 @@
 use native.Mathlib.Omega.{arith}
 use lib.ListN.{length-set}
-use borrow.Author.Rules.{rules}
 use Rattle.memory.proofs.put_word.Goals as goal
 
 pub bounds-memory-at-2 : goal.bounds-memory-at-2

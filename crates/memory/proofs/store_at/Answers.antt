@@ -1,7 +1,6 @@
 use borrow.Author.Tests.{leb-true}
 use mathlib.Core.Path.{refl, sym, ◌∙◌}
 use Rattle.memory.specs.Memory.{stored, reach}
-use borrow.Author.Rules.{rules}
 use Rattle.memory.proofs.store_at.Goals as goal
 
 pub put_at-requires : goal.put_at-requires

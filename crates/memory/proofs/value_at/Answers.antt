@@ -1,5 +1,4 @@
 use native.Mathlib.Omega.{arith}
-use borrow.Author.Rules.{rules}
 use Rattle.memory.proofs.value_at.Goals as goal
 
 pub bounds-memory-at : goal.bounds-memory-at

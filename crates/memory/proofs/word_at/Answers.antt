@@ -1,7 +1,6 @@
 use native.Mathlib.Omega.{arith}
 use mathlib.Core.Path.{refl}
 use Prim.Native.Nat.{◌+◌}
-use borrow.Author.Rules.{rules}
 use Rattle.memory.proofs.word_at.Goals as goal
 
 pub overflow_cast-result : goal.overflow_cast-result

@@ -1,7 +1,6 @@
 use mathlib.Core.Path.{sym}
 use Prim.Native.Nat.{ℕ}
 use lib.ListN.{length-replicate}
-use borrow.Author.Rules.{rules}
 use Rattle.mend.proofs.main.Goals as goal
 
 pub slice_bounds-mend_input-end : goal.slice_bounds-mend_input-end

@@ -1,12 +1,9 @@
 -- The loop's invariant: the lines from word k on, put here, are all of them put from the start.
 use Prim.Native.Nat.{◌≤◌, ◌-◌}
-use mathlib.Core.Path.{◌≡◌, refl}
-use native.Mathlib.Omega.{arith}
-use lib.ListN.{length, drop, drop_of_length-le}
-use Rattle.text.specs.TextLaws.{Remains, all_remains, rest_remains, none_remains}
+use mathlib.Core.Path.{◌≡◌}
+use lib.ListN.{length, drop}
+use Rattle.text.specs.TextLaws.{Remains}
 use Rattle.mend_text.specs.MendText.{change_lines}
-use Rattle.mend_text.specs.MendTextLaws.{lines_next}
-use borrow.Author.Rules.{rules}
 use Rattle.mend_text.proofs.put_changes.Given as goal
 
 abbrev pub invariant-loop-k : goal.invariant-loop-k

@@ -1,5 +1,4 @@
 use Rattle.text.specs.TextLaws.{◌then◌}
-use borrow.Author.Rules.{rules}
 use Rattle.mend_text.proofs.put_counts.Goals as goal
 
 pub returns : goal.returns

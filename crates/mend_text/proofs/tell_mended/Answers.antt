@@ -3,7 +3,6 @@ use lib.Seq.{length-take-le}
 use Rattle.text.specs.TextLaws.{◌then◌}
 use Rattle.mending.specs.MendingAnswer.{told_mending}
 use Rattle.mending.specs.MendingAnswerLaws.{list_put}
-use borrow.Author.Rules.{rules}
 use Rattle.mend_text.proofs.tell_mended.Goals as goal
 
 pub slice_bounds-put_list-end : goal.slice_bounds-put_list-end

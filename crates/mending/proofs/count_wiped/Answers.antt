@@ -1,5 +1,4 @@
 use borrow.Author.Tests.{eq-eqb, ne_eqb}
-use Rattle.mending.proofs.count_wiped.Lts as lts
 use Rattle.mending.proofs.count_wiped.Goals as goal
 
 -- src/lib.rt:47:9

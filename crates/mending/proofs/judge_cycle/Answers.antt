@@ -1,7 +1,6 @@
 use mathlib.Core.Path.{sym, ◌∙◌}
 use borrow.Author.Tests.{lt-ltb, le-ltb}
 use Rattle.mending.specs.MendingLaws.{kept_reserved, kept_low, kept_soon, kept_in_turn, kept_high}
-use borrow.Author.Rules.{rules}
 use Rattle.mending.proofs.judge_cycle.Goals as goal
 
 pub returns-then-is_reserved : goal.returns-then-is_reserved

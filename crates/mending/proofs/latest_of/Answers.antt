@@ -1,6 +1,4 @@
 use mathlib.Core.Path.{sym, ◌∙◌}
-use borrow.Author.Rules.{rules}
-use Rattle.mending.proofs.latest_of.Lts as lts
 use Rattle.mending.proofs.latest_of.Goals as goal
 
 -- src/lib.rt:56:9

@@ -1,5 +1,4 @@
 use borrow.Author.Tests.{eq-eqb, ne_eqb}
-use Rattle.mending.proofs.leave_pst.Lts as lts
 use Rattle.mending.proofs.leave_pst.Goals as goal
 
 -- src/lib.rt:66:9

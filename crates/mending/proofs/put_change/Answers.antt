@@ -2,8 +2,6 @@ use mathlib.Core.Path.{refl, sym}
 use native.Mathlib.Nat.{add-zero}
 use native.Mathlib.Omega.{arith}
 use borrow.Author.Tests.{eq-eqb, ne_eqb}
-use borrow.Author.Rules.{rules}
-use Rattle.mending.proofs.put_change.Lts as lts
 use Rattle.mending.proofs.put_change.Goals as goal
 
 -- src/lib.rt:104:9

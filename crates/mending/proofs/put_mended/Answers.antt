@@ -1,9 +1,7 @@
 use mathlib.Core.Path.{◌≡◌, refl, ap, ◌∙◌}
-use Prim.Native.Nat.{◌-◌, ◌≤◌}
 use native.Mathlib.Omega.{arith}
 use borrow.Author.Rules.{rules}
 use lib.ListN.{length}
-use lib.Seq.{sets}
 use Rattle.laws.specs.StoreLaws.{length_stored}
 use Rattle.mending.specs.declared.Kept.{Kept}
 use Rattle.mending.specs.Mending.{found, mended_pst, retold, changes_before}

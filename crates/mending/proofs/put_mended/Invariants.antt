@@ -1,19 +1,13 @@
 -- The loop's invariant: both buffers have what the cycles before cycle i come to.
-use mathlib.Core.Path.{◌≡◌, refl, ap, ◌∙◌}
+use mathlib.Core.Path.{◌≡◌}
 use Prim.Native.Nat.{◌-◌, ◌≤◌}
-use native.Mathlib.Omega.{arith}
-use borrow.Author.Rules.{rules}
 use lib.ListN.{length}
 use lib.Seq.{sets}
-use Rattle.laws.specs.StoreLaws.{length_stored}
-use Rattle.mending.specs.declared.Kept.{Kept}
 use Rattle.mending.specs.Mending.{found, mended_pst, retold, changes_before}
-use Rattle.mending.specs.MendingLaws.{due_next, left_of, mended_at_most}
-use Rattle.mending.specs.MendingStoreLaws.{changes_counted, change_fits, mended_more, changes_more}
 use Rattle.mending.proofs.put_mended.Given as goal
 
 abbrev pub invariant-loop-i : goal.invariant-loop-i
-invariant-loop-i l =     (l.i ≤ length l.trace)
+invariant-loop-i l = (l.i ≤ length l.trace)
     × (l.due ≡ (found l.trace l.i).due)
     × (l.at ≡ length (changes_before l.trace l.i))
     × (l.bytes ≡ sets l.initial.bytes 0 (retold (mended_pst l.trace) l.trace l.i))

@@ -1,7 +1,6 @@
 use Rattle.answers.specs.Bench.{left}
 use Rattle.morning.specs.Morning.{p9, first}
 use Rattle.morning.specs.MorningLaws.{page_whole, eight_boards}
-use borrow.Author.Rules.{rules}
 use Rattle.morning.proofs.check_all.Goals as goal
 
 pub returns : goal.returns

@@ -2,7 +2,6 @@ use mathlib.Core.Path.{◌∙◌}
 use mathlib.Core.List.{◌∷◌}
 use Rattle.morning.specs.Morning.{p1, p2, p3, p4, later, boards}
 use Rattle.morning.specs.MorningLaws.{paged_first, paged_on}
-use borrow.Author.Rules.{rules}
 use Rattle.morning.proofs.check_boards.Goals as goal
 
 pub shape_of-memory : goal.shape_of-memory

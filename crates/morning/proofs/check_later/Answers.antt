@@ -2,7 +2,6 @@ use mathlib.Core.Path.{◌∙◌}
 use mathlib.Core.List.{[], ◌∷◌}
 use Rattle.morning.specs.Morning.{p5, p6, p7, p8}
 use Rattle.morning.specs.MorningLaws.{paged_on, paged_none}
-use borrow.Author.Rules.{rules}
 use Rattle.morning.proofs.check_later.Goals as goal
 
 pub shape_of-memory : goal.shape_of-memory

@@ -1,7 +1,4 @@
-use mathlib.Core.Path.{sym}
-use lib.Seq.{length-take-le}
 use Rattle.text.specs.TextLaws.{told_cut}
-use borrow.Author.Rules.{rules}
 use Rattle.morning.proofs.check_listing.Goals as goal
 
 -- LEFT Need-slice-aggregate-put-check-3

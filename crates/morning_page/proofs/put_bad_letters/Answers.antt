@@ -1,5 +1,4 @@
 use Rattle.text.specs.TextLaws.{◌then◌}
-use borrow.Author.Rules.{rules}
 use Rattle.morning_page.proofs.put_bad_letters.Goals as goal
 
 pub returns : goal.returns

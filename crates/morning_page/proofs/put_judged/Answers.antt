@@ -1,5 +1,4 @@
 use Rattle.text.specs.TextLaws.{◌then◌}
-use borrow.Author.Rules.{rules}
 use Rattle.morning_page.proofs.put_judged.Goals as goal
 
 pub returns-then-good : goal.returns-then-good

@@ -1,6 +1,5 @@
 use Rattle.text.specs.TextLaws.{◌then◌}
 use borrow.Author.Tests.{eq-eqb, ne_eqb}
-use borrow.Author.Rules.{rules}
 use Rattle.morning_page.proofs.put_verdict.Goals as goal
 
 pub returns-then-bad-eq0 : goal.returns-then-bad-eq0

@@ -1,4 +1,3 @@
-use borrow.Author.Rules.{rules}
 use Rattle.numbers.proofs.add_number.Goals as goal
 
 pub returns-in-Zero : goal.returns-in-Zero

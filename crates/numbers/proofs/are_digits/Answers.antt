@@ -1,9 +1,5 @@
-use mathlib.Core.Path.{◌≡◌, refl, sym, ◌∙◌}
+use mathlib.Core.Path.{refl, sym, ◌∙◌}
 use native.Mathlib.Omega.{arith}
-use borrow.Author.Rules.{rules}
-use Prim.Native.Nat.{◌-◌}
-use lib.ListN.{length, drop}
-use Rattle.numbers.specs.Numbers.{all_digits}
 use Rattle.numbers.specs.NumberLaws.{digits_stop, digits_go_on, digits_end}
 use Rattle.numbers.proofs.are_digits.Goals as goal
 

@@ -1,10 +1,7 @@
-use mathlib.Core.Path.{◌≡◌, refl, sym, ◌∙◌}
-use native.Mathlib.Omega.{arith}
-use borrow.Author.Rules.{rules}
+use mathlib.Core.Path.{◌≡◌}
 use Prim.Native.Nat.{◌-◌}
 use lib.ListN.{length, drop}
 use Rattle.numbers.specs.Numbers.{all_digits}
-use Rattle.numbers.specs.NumberLaws.{digits_stop, digits_go_on, digits_end}
 use Rattle.numbers.proofs.are_digits.Given as goal
 
 abbrev pub invariant-loop-i : goal.invariant-loop-i

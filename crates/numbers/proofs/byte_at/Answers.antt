@@ -1,7 +1,6 @@
 use Rattle.numbers.specs.NumberLaws.{byte_out, byte_half}
 use mathlib.Core.Path.{sym}
 use native.Mathlib.Omega.{arith}
-use borrow.Author.Rules.{rules}
 use Rattle.numbers.proofs.byte_at.Goals as goal
 
 pub returns-then-line-at : goal.returns-then-line-at

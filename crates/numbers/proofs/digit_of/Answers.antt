@@ -1,7 +1,6 @@
 use native.Mathlib.Omega.{arith}
 use Rattle.numbers.specs.Numbers.{digit}
 use Rattle.numbers.specs.NumberLaws.{within, below, above}
-use borrow.Author.Rules.{rules}
 use Rattle.numbers.proofs.digit_of.Goals as goal
 
 pub returns-in-48-to-57 : goal.returns-in-48-to-57

@@ -3,7 +3,6 @@ use native.Mathlib.Omega.{arith}
 use Rattle.numbers.specs.Numbers.{prefix_length}
 use Rattle.numbers.specs.NumberLaws.{no_prefix}
 use mathlib.Core.Path.{sym}
-use borrow.Author.Rules.{rules}
 use Rattle.numbers.proofs.prefix_length.Goals as goal
 
 pub returns-then-word-lt2 : goal.returns-then-word-lt2

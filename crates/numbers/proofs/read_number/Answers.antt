@@ -1,10 +1,6 @@
-use mathlib.Core.Path.{◌≡◌, sym, ◌∙◌}
+use mathlib.Core.Path.{sym, ◌∙◌}
 use native.Mathlib.Omega.{arith}
-use Prim.Native.Nat.{◌-◌, ◌≤◌}
-use lib.ListN.{length, drop}
-use Rattle.numbers.specs.Numbers.{numeral}
-use Rattle.numbers.specs.NumberLaws.{numeral_from, number_empty, number_begins, number_bad, number_wide, number_goes_on, number_ends}
-use borrow.Author.Rules.{rules}
+use Rattle.numbers.specs.NumberLaws.{number_empty, number_begins, number_bad, number_wide, number_goes_on, number_ends}
 use Rattle.numbers.proofs.read_number.Goals as goal
 
 pub returns-then-word-start : goal.returns-then-word-start
@@ -23,10 +19,10 @@ returns-then-value-gt268435455 c = sym (c.loop-i.invariant.1 ∙ number_wide c.a
 
 pub loop-i-preserved : goal.loop-i-preserved
 loop-i-preserved c = let at = c.loop-i in (
-      omega arith,
-      at.invariant.1 ∙ number_goes_on c.args.word.now at.i at.value c.loop-i-test.true (omega arith)
-          ∙ rw (← c.digit_of-digit.ensures.0),
-    )
+  omega arith,
+  at.invariant.1 ∙ number_goes_on c.args.word.now at.i at.value c.loop-i-test.true (omega arith)
+      ∙ rw (← c.digit_of-digit.ensures.0),
+)
 
 pub returns : goal.returns
 returns c = sym (c.loop-i.invariant.1 ∙ number_ends c.args.word.now c.loop-i.i c.loop-i.value c.loop-i-test.false c.loop-i.invariant.0)

@@ -1,10 +1,8 @@
-use mathlib.Core.Path.{◌≡◌, sym, ◌∙◌}
-use native.Mathlib.Omega.{arith}
+use mathlib.Core.Path.{◌≡◌}
 use Prim.Native.Nat.{◌-◌, ◌≤◌}
 use lib.ListN.{length, drop}
 use Rattle.numbers.specs.Numbers.{numeral}
-use Rattle.numbers.specs.NumberLaws.{numeral_from, number_empty, number_begins, number_bad, number_wide, number_goes_on, number_ends}
-use borrow.Author.Rules.{rules}
+use Rattle.numbers.specs.NumberLaws.{numeral_from}
 use Rattle.numbers.proofs.read_number.Given as goal
 
 abbrev pub invariant-loop-i : goal.invariant-loop-i

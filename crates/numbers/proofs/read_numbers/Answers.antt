@@ -1,12 +1,10 @@
 use Prim.Native.Nat.{◌-◌}
-use mathlib.Core.Path.{◌≡◌, refl, sym, ◌∙◌}
+use mathlib.Core.Path.{refl, sym, ◌∙◌}
 use native.Mathlib.Omega.{arith}
-use lib.ListN.{length, take, drop}
+use lib.ListN.{take, drop}
 use Rattle.words.specs.LineWords.{words_from}
 use Rattle.words.specs.LineWordLaws.{no_word, word_bounds, next_word}
-use Rattle.numbers.specs.Numbers.{gathered, numbers}
 use Rattle.numbers.specs.NumberLaws.{gather_goes_on}
-use borrow.Author.Rules.{rules}
 use Rattle.numbers.proofs.read_numbers.Goals as goal
 
 pub loop-before-init : goal.loop-before-init
@@ -23,10 +21,10 @@ slice_bounds-read_number-end c = (word_bounds c.args.line.now c.loop-before.at c
 
 pub loop-before-smaller : goal.loop-before-smaller
 loop-before-smaller c = omega (
-      arith,
-      word_bounds c.args.line.now c.loop-before.at c.word_start-start.result
-          c.word_start-start.ensures c.word_end-stop.result c.if-line-start.false c.word_end-stop.ensures,
-    )
+  arith,
+  word_bounds c.args.line.now c.loop-before.at c.word_start-start.result
+      c.word_start-start.ensures c.word_end-stop.result c.if-line-start.false c.word_end-stop.ensures,
+)
 
 pub loop-before-preserved : goal.loop-before-preserved
 loop-before-preserved c = let line = c.args.line.now in

@@ -1,12 +1,8 @@
 use Prim.Native.Nat.{◌-◌}
-use mathlib.Core.Path.{◌≡◌, refl, sym, ◌∙◌}
-use native.Mathlib.Omega.{arith}
-use lib.ListN.{length, take, drop}
+use mathlib.Core.Path.{◌≡◌}
+use lib.ListN.{length}
 use Rattle.words.specs.LineWords.{words_from}
-use Rattle.words.specs.LineWordLaws.{no_word, word_bounds, next_word}
 use Rattle.numbers.specs.Numbers.{gathered, numbers}
-use Rattle.numbers.specs.NumberLaws.{gather_goes_on}
-use borrow.Author.Rules.{rules}
 use Rattle.numbers.proofs.read_numbers.Given as goal
 
 abbrev pub invariant-loop-before : goal.invariant-loop-before

@@ -1,5 +1,4 @@
 use Rattle.text.specs.TextLaws.{◌then◌}
-use borrow.Author.Rules.{rules}
 use Rattle.page_text.proofs.put_page.Goals as goal
 
 pub returns-in-Refused : goal.returns-in-Refused

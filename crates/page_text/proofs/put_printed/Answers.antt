@@ -1,5 +1,4 @@
 use Rattle.page_text.specs.PageTextLaws.{page_printed}
-use borrow.Author.Rules.{rules}
 use Rattle.page_text.proofs.put_printed.Goals as goal
 
 pub returns : goal.returns

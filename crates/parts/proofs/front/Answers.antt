@@ -2,7 +2,6 @@ use native.Mathlib.Omega.{arith}
 use mathlib.Core.Path.{sym}
 use lib.ListN.{length-take}
 use lib.Seq.{take_all}
-use borrow.Author.Rules.{rules}
 use Rattle.parts.proofs.front.Goals as goal
 
 pub slice_bounds-result-end : goal.slice_bounds-result-end

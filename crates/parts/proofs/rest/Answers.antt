@@ -3,7 +3,6 @@ use Prim.Native.Nat.{◌-◌}
 use native.Mathlib.Omega.{arith}
 use lib.ListN.{length, drop, length-drop, drop_of_length-le}
 use lib.Seq.{take_all, take-nil, drop-length}
-use borrow.Author.Rules.{rules}
 use Rattle.parts.proofs.rest.Goals as goal
 
 pub returns-then-at-bytes : goal.returns-then-at-bytes

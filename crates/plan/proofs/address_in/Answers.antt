@@ -1,5 +1,4 @@
 use borrow.Author.Tests.{eq-eqb, ne_eqb}
-use borrow.Author.Rules.{rules}
 use Rattle.plan.proofs.address_in.Goals as goal
 
 pub returns-then-n-eq4 : goal.returns-then-n-eq4

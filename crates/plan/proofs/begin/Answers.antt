@@ -1,6 +1,5 @@
 use Rattle.plan.specs.Plan.{begun}
 use borrow.Author.Tests.{le-leb, lt-leb}
-use borrow.Author.Rules.{rules}
 use Rattle.plan.proofs.begin.Goals as goal
 
 pub returns-then-word-ge65536 : goal.returns-then-word-ge65536

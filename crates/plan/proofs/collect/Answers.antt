@@ -1,6 +1,5 @@
 use Rattle.plan.specs.Plan.{collected}
 use borrow.Author.Tests.{eq-eqb, ne_eqb}
-use borrow.Author.Rules.{rules}
 use Rattle.plan.proofs.collect.Goals as goal
 
 pub returns-then-left-eq0 : goal.returns-then-left-eq0

@@ -1,4 +1,3 @@
-use borrow.Author.Rules.{rules}
 use Rattle.plan.proofs.make_plan.Goals as goal
 
 pub returns-in-Rest : goal.returns-in-Rest

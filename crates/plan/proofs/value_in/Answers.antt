@@ -1,5 +1,4 @@
 use borrow.Author.Tests.{eq-eqb, ne_eqb}
-use borrow.Author.Rules.{rules}
 use Rattle.plan.proofs.value_in.Goals as goal
 
 pub returns-then-n-eq1 : goal.returns-then-n-eq1

@@ -2,7 +2,6 @@ use native.Mathlib.Omega.{arith}
 use mathlib.Core.Path.{refl}
 use Rattle.pod_answers.specs.PodSaidLaws.{pod_said_lem, line_room}
 use Rattle.text.specs.TextLaws.{nothing}
-use borrow.Author.Rules.{rules}
 use Rattle.pod_answers.proofs.answer.Goals as goal
 
 pub read-requires : goal.read-requires

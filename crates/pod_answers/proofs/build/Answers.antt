@@ -2,7 +2,6 @@ use lib.ListN.{length-take}
 use native.Mathlib.Omega.{arith}
 use mathlib.Core.Path.{refl}
 use Rattle.pod_answers.specs.PodSaidLaws.{words_built, refused_built}
-use borrow.Author.Rules.{rules}
 use Rattle.pod_answers.proofs.build.Goals as goal
 
 pub slice_bounds-buffer-end : goal.slice_bounds-buffer-end

@@ -1,7 +1,6 @@
 use lib.ListN.{length-take}
 use native.Mathlib.Omega.{arith}
 use Rattle.pod_answers.specs.PodSaidLaws.{reading_answered}
-use borrow.Author.Rules.{rules}
 use Rattle.pod_answers.proofs.read.Goals as goal
 
 pub slice_bounds-read-end : goal.slice_bounds-read-end

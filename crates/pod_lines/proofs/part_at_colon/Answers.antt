@@ -1,13 +1,11 @@
-use mathlib.Core.Path.{◌≡◌, refl, sym, ◌∙◌}
+use mathlib.Core.Path.{refl, sym, ◌∙◌}
 use native.Mathlib.Omega.{arith}
 use Prim.Native.Nat.{◌-◌}
-use lib.ListN.{length, take, drop}
+use lib.ListN.{take, drop}
 use Rattle.words.specs.LineWords.{words_from}
 use Rattle.words.specs.LineWordLaws.{no_word, word_bounds, next_word}
-use Rattle.numbers.specs.Numbers.{numbers, gathered}
 use Rattle.numbers.specs.NumberLaws.{gather_goes_on}
-use Rattle.pod_lines.specs.PodLines.{before_colon, after_colon}
-use borrow.Author.Rules.{rules}
+use Rattle.pod_lines.specs.PodLines.{before_colon}
 use Rattle.pod_lines.proofs.part_at_colon.Goals as goal
 
 pub loop-before-init : goal.loop-before-init
@@ -29,10 +27,10 @@ returns-then-is_same c = let cut = next_word c.args.line.now c.loop-before.at c.
 
 pub slice_bounds-read_number-count : goal.slice_bounds-read_number-count
 slice_bounds-read_number-count c = omega (
-      arith,
-      word_bounds c.args.line.now c.loop-before.at c.word_start-start.result
-          c.word_start-start.ensures c.word_end-stop.result c.if-line-start.false c.word_end-stop.ensures,
-    )
+  arith,
+  word_bounds c.args.line.now c.loop-before.at c.word_start-start.result
+      c.word_start-start.ensures c.word_end-stop.result c.if-line-start.false c.word_end-stop.ensures,
+)
 
 pub slice_bounds-read_number-end : goal.slice_bounds-read_number-end
 slice_bounds-read_number-end c = (word_bounds c.args.line.now c.loop-before.at c.word_start-start.result
@@ -40,11 +38,11 @@ slice_bounds-read_number-end c = (word_bounds c.args.line.now c.loop-before.at c
 
 pub loop-before-smaller : goal.loop-before-smaller
 loop-before-smaller c = omega (
-      arith,
-      word_bounds c.args.line.now c.loop-before.at
-          c.word_start-start.result c.word_start-start.ensures c.word_end-stop.result
-          c.if-line-start.false c.word_end-stop.ensures,
-    )
+  arith,
+  word_bounds c.args.line.now c.loop-before.at
+      c.word_start-start.result c.word_start-start.ensures c.word_end-stop.result
+      c.if-line-start.false c.word_end-stop.ensures,
+)
 
 pub loop-before-preserved : goal.loop-before-preserved
 loop-before-preserved c = let line = c.args.line.now in

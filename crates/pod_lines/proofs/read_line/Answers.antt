@@ -1,6 +1,5 @@
 use Rattle.pod_lines.specs.PodLineLaws.{as_meant, says_nothing, says_unclear}
 use Rattle.pod_lines.specs.PodLines.{pod_meaning}
-use borrow.Author.Rules.{rules}
 use Rattle.pod_lines.proofs.read_line.Goals as goal
 
 pub returns-in-Silent : goal.returns-in-Silent

@@ -1,6 +1,5 @@
 use Rattle.words.specs.LineWordLaws.{no_word, word_bounds, next_word}
 use Rattle.pod_lines.specs.PodLineLaws.{as_meant, says_unclear}
-use borrow.Author.Rules.{rules}
 use Rattle.pod_lines.proofs.read_read.Goals as goal
 
 pub returns-then-line-start : goal.returns-then-line-start

@@ -1,5 +1,4 @@
 use Rattle.pod_lines.specs.PodLineLaws.{as_meant, says_unclear}
-use borrow.Author.Rules.{rules}
 use Rattle.pod_lines.proofs.read_reading.Goals as goal
 
 pub returns-in-At : goal.returns-in-At

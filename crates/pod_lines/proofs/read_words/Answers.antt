@@ -1,7 +1,6 @@
 use Rattle.words.specs.LineWordLaws.{no_word, word_bounds, next_word}
 use Rattle.pod_lines.specs.PodLineLaws.{as_meant, says_unclear, says_build}
 use Rattle.pod_lines.specs.PodLines.{pod_words}
-use borrow.Author.Rules.{rules}
 use Rattle.pod_lines.proofs.read_words.Goals as goal
 
 -- LEFT Need-slice-bounds-is-same-end-2

@@ -1,5 +1,4 @@
 use Rattle.pod_lines.specs.PodLineLaws.{says_read}
-use borrow.Author.Rules.{rules}
 use Rattle.pod_lines.proofs.take_replies.Goals as goal
 
 pub returns-in-Count : goal.returns-in-Count

@@ -1,6 +1,5 @@
 use Rattle.port.specs.Packet.{packet_verdict}
 use borrow.Author.Tests.{le-leb, lt-leb}
-use borrow.Author.Rules.{rules}
 use Rattle.port.proofs.judge_packet.Goals as goal
 
 pub returns-then-word-le131071 : goal.returns-then-word-le131071

@@ -1,5 +1,4 @@
 use mathlib.Core.Path.{sym, ◌∙◌}
-use borrow.Author.Rules.{rules}
 use Rattle.port.proofs.take_packet.Goals as goal
 
 pub returns-in-Accepted : goal.returns-in-Accepted

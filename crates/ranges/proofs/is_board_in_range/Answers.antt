@@ -1,5 +1,4 @@
 use borrow.Author.Tests.{le-leb, lt-leb}
-use borrow.Author.Rules.{rules}
 use Rattle.ranges.proofs.is_board_in_range.Goals as goal
 
 pub returns-then-board-le15 : goal.returns-then-board-le15

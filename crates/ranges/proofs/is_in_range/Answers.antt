@@ -1,4 +1,3 @@
-use borrow.Author.Rules.{rules}
 use Rattle.ranges.specs.Ranges.{in_range}
 use Rattle.ranges.proofs.is_in_range.Goals as goal
 

@@ -1,5 +1,4 @@
 use borrow.Author.Tests.{le-leb, lt-leb}
-use borrow.Author.Rules.{rules}
 use Rattle.ranges.proofs.is_phase_in_range.Goals as goal
 
 pub returns-then-left-ge1 : goal.returns-then-left-ge1

@@ -1,5 +1,4 @@
 use borrow.Author.Tests.{le-leb, lt-leb}
-use borrow.Author.Rules.{rules}
 use Rattle.ranges.proofs.is_place_in_range.Goals as goal
 
 pub returns-then-place-le131071 : goal.returns-then-place-le131071

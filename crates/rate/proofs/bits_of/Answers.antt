@@ -1,4 +1,3 @@
-use borrow.Author.Rules.{rules}
 use Rattle.rate.proofs.bits_of.Goals as goal
 
 pub returns-in-Average : goal.returns-in-Average

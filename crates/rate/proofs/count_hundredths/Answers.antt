@@ -1,5 +1,4 @@
 use borrow.Author.Tests.{eq-eqb, ne_eqb}
-use borrow.Author.Rules.{rules}
 use Rattle.rate.proofs.count_hundredths.Goals as goal
 
 pub returns-then-starts-eq0 : goal.returns-then-starts-eq0

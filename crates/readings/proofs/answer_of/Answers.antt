@@ -1,4 +1,3 @@
-use borrow.Author.Rules.{rules}
 use Rattle.readings.proofs.answer_of.Goals as goal
 
 pub returns-in-First : goal.returns-in-First

@@ -1,4 +1,3 @@
-use borrow.Author.Rules.{rules}
 use Rattle.readings.proofs.read.Goals as goal
 
 pub returns-then-is_in_range : goal.returns-then-is_in_range

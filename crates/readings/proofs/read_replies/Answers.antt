@@ -1,10 +1,7 @@
 use native.Mathlib.Omega.{arith}
-use Prim.Native.Nat.{◌-◌}
-use mathlib.Core.Path.{◌≡◌, sym, ◌∙◌}
-use lib.ListN.{length, drop}
-use borrow.Author.Rules.{rules}
-use Rattle.readings.specs.Reading.{reading_of}
-use Rattle.readings.specs.ReaderLaws.{reading_from, from_start, from_done, from_past, from_next}
+use mathlib.Core.Path.{sym, ◌∙◌}
+use lib.ListN.{drop}
+use Rattle.readings.specs.ReaderLaws.{from_start, from_done, from_past, from_next}
 use Rattle.readings.proofs.read_replies.Goals as goal
 
 pub loop-used-init : goal.loop-used-init

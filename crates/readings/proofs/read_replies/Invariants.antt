@@ -1,10 +1,8 @@
-use native.Mathlib.Omega.{arith}
 use Prim.Native.Nat.{◌-◌}
-use mathlib.Core.Path.{◌≡◌, sym, ◌∙◌}
+use mathlib.Core.Path.{◌≡◌}
 use lib.ListN.{length, drop}
-use borrow.Author.Rules.{rules}
 use Rattle.readings.specs.Reading.{reading_of}
-use Rattle.readings.specs.ReaderLaws.{reading_from, from_start, from_done, from_past, from_next}
+use Rattle.readings.specs.ReaderLaws.{reading_from}
 use Rattle.readings.proofs.read_replies.Given as goal
 
 abbrev pub invariant-loop-used : goal.invariant-loop-used

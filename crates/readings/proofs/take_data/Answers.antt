@@ -1,5 +1,4 @@
 use borrow.Author.Tests.{eq-eqb, ne_eqb}
-use borrow.Author.Rules.{rules}
 use Rattle.readings.proofs.take_data.Goals as goal
 
 pub returns-then-reply-eq-COMPLETE : goal.returns-then-reply-eq-COMPLETE

@@ -1,5 +1,4 @@
 use borrow.Author.Tests.{le-leb, lt-leb}
-use borrow.Author.Rules.{rules}
 use Rattle.readings.proofs.take_first.Goals as goal
 
 pub returns-then-reply-le65535 : goal.returns-then-reply-le65535

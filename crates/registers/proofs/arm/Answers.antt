@@ -1,4 +1,3 @@
-use borrow.Author.Rules.{rules}
 use Rattle.registers.proofs.arm.Goals as goal
 
 pub returns : goal.returns

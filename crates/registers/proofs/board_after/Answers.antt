@@ -1,4 +1,3 @@
-use borrow.Author.Rules.{rules}
 use Rattle.registers.proofs.board_after.Goals as goal
 
 pub returns-in-Unknown : goal.returns-in-Unknown

@@ -1,4 +1,3 @@
-use borrow.Author.Rules.{rules}
 use Rattle.registers.proofs.is_tdr.Goals as goal
 
 pub returns-in-Csr : goal.returns-in-Csr

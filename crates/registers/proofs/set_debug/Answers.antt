@@ -1,5 +1,4 @@
 use Rattle.registers.specs.Registers.{debug_written}
-use borrow.Author.Rules.{rules}
 use Rattle.registers.proofs.set_debug.Goals as goal
 
 pub returns-then-is_tdr : goal.returns-then-is_tdr

@@ -1,5 +1,4 @@
 use Rattle.registers.specs.Registers.{debug_loaded}
-use borrow.Author.Rules.{rules}
 use Rattle.registers.proofs.write_debug.Goals as goal
 
 pub returns-in-Csr : goal.returns-in-Csr

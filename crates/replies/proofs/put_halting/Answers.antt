@@ -1,6 +1,5 @@
 use native.Mathlib.Omega.{arith}
 use mathlib.Core.Path.{refl}
-use borrow.Author.Rules.{rules}
 use Rattle.replies.proofs.put_halting.Goals as goal
 
 pub returns-in-NoHalt : goal.returns-in-NoHalt

@@ -1,11 +1,8 @@
 use Prim.Native.Nat.{◌≤◌, ◌+◌, ◌-◌}
-use mathlib.Core.Path.{◌≡◌, refl}
-use native.Mathlib.Omega.{arith}
+use mathlib.Core.Path.{◌≡◌}
 use lib.ListN.{length}
-use Rattle.text.specs.TextLaws.{Remains, all_remains, rest_remains, none_remains}
+use Rattle.text.specs.TextLaws.{Remains}
 use Rattle.replies.specs.ReplyText.{bytes_text}
-use Rattle.replies.specs.ReplyTextLaws.{bytes_begin, bytes_on, bytes_end}
-use borrow.Author.Rules.{rules}
 use Rattle.replies.proofs.put_memory.Given as goal
 
 abbrev pub invariant-loop-i : goal.invariant-loop-i

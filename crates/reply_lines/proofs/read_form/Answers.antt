@@ -1,4 +1,3 @@
-use borrow.Author.Rules.{rules}
 use Rattle.reply_lines.proofs.read_form.Goals as goal
 
 pub returns-in-One : goal.returns-in-One

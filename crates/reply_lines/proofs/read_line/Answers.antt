@@ -1,5 +1,4 @@
 use Rattle.reply_lines.specs.ReplyLines.{reply_line}
-use borrow.Author.Rules.{rules}
 use Rattle.reply_lines.proofs.read_line.Goals as goal
 
 pub returns-in-Silent : goal.returns-in-Silent

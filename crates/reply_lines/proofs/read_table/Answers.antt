@@ -1,4 +1,3 @@
-use borrow.Author.Rules.{rules}
 use Rattle.reply_lines.proofs.read_table.Goals as goal
 
 pub returns : goal.returns

@@ -1,6 +1,5 @@
 use Rattle.words.specs.LineWordLaws.{no_word, word_bounds, next_word}
 use Rattle.reply_lines.specs.ReplyLines.{reply_words}
-use borrow.Author.Rules.{rules}
 use Rattle.reply_lines.proofs.read_words.Goals as goal
 
 pub returns-then-line-start : goal.returns-then-line-start

@@ -1,5 +1,4 @@
 use Rattle.reply_lines.specs.ReplyLines.{reply_of_one}
-use borrow.Author.Rules.{rules}
 use Rattle.reply_lines.proofs.reply_of_one.Goals as goal
 
 pub returns-then-is_same : goal.returns-then-is_same

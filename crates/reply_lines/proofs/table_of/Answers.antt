@@ -1,4 +1,3 @@
-use borrow.Author.Rules.{rules}
 use Rattle.reply_lines.proofs.table_of.Goals as goal
 
 pub returns : goal.returns

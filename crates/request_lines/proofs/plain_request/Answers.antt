@@ -1,6 +1,4 @@
 use Rattle.request_lines.specs.RequestLines.{plain_request}
-use borrow.Author.Rules.{rules}
-use Rattle.request_lines.proofs.plain_request.Lts as lts
 use Rattle.request_lines.proofs.plain_request.Goals as goal
 
 pub returns-then-is_same : goal.returns-then-is_same

@@ -1,5 +1,4 @@
 use Rattle.words.specs.LineWordLaws.{no_word, word_bounds, next_word}
-use borrow.Author.Rules.{rules}
 use Rattle.request_lines.proofs.read_request.Goals as goal
 
 pub returns-then-line-start : goal.returns-then-line-start

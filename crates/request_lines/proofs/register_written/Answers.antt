@@ -1,6 +1,4 @@
 use Rattle.request_lines.specs.RequestLines.{register_written}
-use borrow.Author.Rules.{rules}
-use Rattle.request_lines.proofs.register_written.Lts as lts
 use Rattle.request_lines.proofs.register_written.Goals as goal
 
 pub returns-then-is_same : goal.returns-then-is_same

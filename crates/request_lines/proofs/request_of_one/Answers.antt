@@ -1,5 +1,3 @@
-use borrow.Author.Rules.{rules}
-use Rattle.request_lines.proofs.request_of_one.Lts as lts
 use Rattle.request_lines.proofs.request_of_one.Goals as goal
 
 pub returns-in-Of : goal.returns-in-Of

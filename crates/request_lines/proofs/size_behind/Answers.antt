@@ -5,8 +5,6 @@ use native.Mathlib.Omega.{arith}
 use lib.ListN.{length, drop, length-drop}
 use lib.Seq.{take_all}
 use Rattle.request_lines.specs.RequestLineLaws.{no_size_of_another, no_size_of_a_shorter, size_behind_lem}
-use borrow.Author.Rules.{rules}
-use Rattle.request_lines.proofs.size_behind.Lts as lts
 use Rattle.request_lines.proofs.size_behind.Goals as goal
 
 pub returns-then-name-end : goal.returns-then-name-end

@@ -1,6 +1,4 @@
 use Rattle.request_lines.specs.RequestLines.{size_behind}
-use borrow.Author.Rules.{rules}
-use Rattle.request_lines.proofs.size_named.Lts as lts
 use Rattle.request_lines.proofs.size_named.Goals as goal
 
 pub returns-then-is_same : goal.returns-then-is_same

@@ -1,5 +1,4 @@
 use Rattle.text.specs.TextLaws.{◌then◌}
-use borrow.Author.Rules.{rules}
 use Rattle.request_text.proofs.put_outcome.Goals as goal
 
 pub returns-in-Value : goal.returns-in-Value

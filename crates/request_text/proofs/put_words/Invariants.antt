@@ -1,11 +1,8 @@
-use lib.ListN.{length, drop, drop_of_length-le}
-use Rattle.text.specs.TextLaws.{◌then◌, Remains, all_remains, rest_remains, none_remains}
+use lib.ListN.{length, drop}
+use Rattle.text.specs.TextLaws.{Remains}
 use Prim.Native.Nat.{◌≤◌, ◌-◌}
-use mathlib.Core.Path.{◌≡◌, refl}
-use native.Mathlib.Omega.{arith}
+use mathlib.Core.Path.{◌≡◌}
 use Rattle.request_text.specs.RequestText.{each_word}
-use Rattle.request_text.specs.RequestTextLaws.{words_on}
-use borrow.Author.Rules.{rules}
 use Rattle.request_text.proofs.put_words.Given as goal
 
 abbrev pub invariant-loop-i : goal.invariant-loop-i

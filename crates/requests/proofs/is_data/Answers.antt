@@ -1,4 +1,3 @@
-use borrow.Author.Rules.{rules}
 use Rattle.requests.proofs.is_data.Goals as goal
 
 pub returns-in-Byte : goal.returns-in-Byte

@@ -1,6 +1,5 @@
 use native.Mathlib.Omega.{arith}
 use borrow.Author.Tests.{le-leb}
-use borrow.Author.Rules.{rules}
 use Rattle.requests.proofs.is_in_range.Goals as goal
 
 pub returns-in-Rdreg : goal.returns-in-Rdreg

@@ -1,4 +1,3 @@
-use borrow.Author.Rules.{rules}
 use Rattle.requests.proofs.kind_of.Goals as goal
 
 pub returns-in-Rdreg : goal.returns-in-Rdreg

@@ -1,5 +1,4 @@
 use borrow.Author.Tests.{le-leb, lt-leb}
-use borrow.Author.Rules.{rules}
 use Rattle.run.proofs.has_short_way.Goals as goal
 
 pub returns-then-left-ge2 : goal.returns-then-left-ge2

@@ -1,6 +1,5 @@
 use Rattle.run.specs.Run.{run_verdict}
 use borrow.Author.Tests.{le-leb, lt-leb}
-use borrow.Author.Rules.{rules}
 use Rattle.run.proofs.judge_run.Goals as goal
 
 pub returns-then-words-room : goal.returns-then-words-room

@@ -1,7 +1,6 @@
 use mathlib.Core.Path.{sym, ap, ◌∙◌}
 use Rattle.grounds.specs.Grounds.{told}
 use Rattle.run.specs.RunLaws.{accepted_has_room, written_whole}
-use borrow.Author.Rules.{rules}
 use Rattle.run.proofs.take_packets.Goals as goal
 
 pub take_words-next-requires : goal.take_words-next-requires

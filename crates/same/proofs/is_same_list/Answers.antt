@@ -1,9 +1,5 @@
-use Prim.Native.Nat.{◌-◌, ◌≤◌}
-use mathlib.Core.Path.{◌≡◌, refl, sym, ◌∙◌}
+use mathlib.Core.Path.{refl, sym, ◌∙◌}
 use native.Mathlib.Omega.{arith}
-use borrow.Author.Rules.{rules}
-use lib.ListN.{length, drop}
-use Rattle.same.specs.SameList.{same}
 use Rattle.same.specs.SameListLaws.{same_length, same_differs, same_goes_on, same_ends}
 use Rattle.same.proofs.is_same_list.Goals as goal
 
@@ -20,7 +16,7 @@ pub bounds-name-i : goal.bounds-name-i
 bounds-name-i c = omega arith
 
 pub returns-then-word-i : goal.returns-then-word-i
-returns-then-word-i c =     sym (c.loop-i.invariant.1 ∙ same_differs c.args.word.now c.args.name.now c.loop-i.i c.loop-i-test.true
+returns-then-word-i c = sym (c.loop-i.invariant.1 ∙ same_differs c.args.word.now c.args.name.now c.loop-i.i c.loop-i-test.true
     (omega arith) c.if-word-i.true)
 
 pub loop-i-preserved : goal.loop-i-preserved

@@ -1,10 +1,7 @@
 use Prim.Native.Nat.{◌-◌, ◌≤◌}
-use mathlib.Core.Path.{◌≡◌, refl, sym, ◌∙◌}
-use native.Mathlib.Omega.{arith}
-use borrow.Author.Rules.{rules}
+use mathlib.Core.Path.{◌≡◌}
 use lib.ListN.{length, drop}
 use Rattle.same.specs.SameList.{same}
-use Rattle.same.specs.SameListLaws.{same_length, same_differs, same_goes_on, same_ends}
 use Rattle.same.proofs.is_same_list.Given as goal
 
 abbrev pub invariant-loop-i : goal.invariant-loop-i

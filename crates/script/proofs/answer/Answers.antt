@@ -1,4 +1,3 @@
-use borrow.Author.Rules.{rules}
 use Rattle.script.proofs.answer.Goals as goal
 
 pub returns : goal.returns

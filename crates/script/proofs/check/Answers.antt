@@ -9,7 +9,7 @@ slice_bounds-put_check-end c = sym (length-take-le _ _ (search rules))
 
 pub returns : goal.returns
 returns c = let gone = c.take_lines-gone.ensures in record {
-      stands = gone.stands;
-      puts = rw (told_cut gone.puts) at c.put_check-judged.ensures.lines;
-      count = rw (told_cut gone.puts) at c.put_check-judged.ensures.count;
-    }
+  stands = gone.stands;
+  puts = rw (told_cut gone.puts) at c.put_check-judged.ensures.lines;
+  count = rw (told_cut gone.puts) at c.put_check-judged.ensures.count;
+}

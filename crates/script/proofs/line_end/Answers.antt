@@ -1,9 +1,6 @@
-use Prim.Native.Nat.{◌+◌, ◌-◌}
-use mathlib.Core.Path.{◌≡◌, refl}
+use Prim.Native.Nat.{◌-◌}
+use mathlib.Core.Path.{refl}
 use native.Mathlib.Omega.{arith}
-use borrow.Author.Rules.{rules}
-use lib.ListN.{length, drop}
-use Rattle.scripts.specs.Script.{line_length}
 use Rattle.scripts.specs.ScriptLaws.{line_stops, line_goes_on, line_out}
 use Rattle.script.proofs.line_end.Goals as goal
 

@@ -1,5 +1,4 @@
 use Rattle.text.specs.TextLaws.{nothing}
-use borrow.Author.Rules.{rules}
 use Rattle.script.proofs.put_gap.Goals as goal
 
 pub returns-then-shown : goal.returns-then-shown

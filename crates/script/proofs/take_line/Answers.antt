@@ -2,7 +2,6 @@ use mathlib.Core.Path.{refl}
 use Rattle.text.specs.TextLaws.{nothing}
 use Rattle.answers.specs.Bench.{left}
 use Rattle.scripts.specs.ScriptLaws.{no_mark, shown_mark, other_mark, went_nowhere}
-use borrow.Author.Rules.{rules}
 use Rattle.script.proofs.take_line.Goals as goal
 
 pub returns-then-line-eq0 : goal.returns-then-line-eq0

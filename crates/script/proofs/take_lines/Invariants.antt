@@ -1,11 +1,7 @@
-use Rattle.scripts.specs.ScriptLaws.{line_end_within}
 use Prim.Native.Nat.{◌≤◌, ◌-◌}
-use mathlib.Core.Path.{◌≡◌, refl}
-use native.Mathlib.Omega.{arith}
-use borrow.Author.Rules.{rules}
+use mathlib.Core.Path.{◌≡◌}
 use lib.ListN.{length}
-use Rattle.text.specs.TextPartLaws.{ends_inside}
-use Rattle.scripts.specs.ScriptLaws.{Rests, rests_on, rests_out}
+use Rattle.scripts.specs.ScriptLaws.{Rests}
 use Rattle.script.proofs.take_lines.Given as goal
 
 abbrev pub invariant-loop-from : goal.invariant-loop-from

@@ -1,4 +1,3 @@
-use borrow.Author.Rules.{rules}
 use Rattle.state_line.proofs.put_chain.Goals as goal
 
 pub returns-in-Off : goal.returns-in-Off

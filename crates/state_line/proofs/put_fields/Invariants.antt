@@ -1,11 +1,8 @@
-use lib.ListN.{length, drop, drop_of_length-le}
-use Rattle.text.specs.TextLaws.{Remains, all_remains, rest_remains, none_remains}
+use lib.ListN.{length, drop}
+use Rattle.text.specs.TextLaws.{Remains}
 use Prim.Native.Nat.{◌≤◌, ◌-◌}
-use mathlib.Core.Path.{◌≡◌, refl}
-use native.Mathlib.Omega.{arith}
+use mathlib.Core.Path.{◌≡◌}
 use Rattle.state_line.specs.StateTextMirror.{form_text}
-use Rattle.state_line.specs.StateTextLaws.{form_on}
-use borrow.Author.Rules.{rules}
 use Rattle.state_line.proofs.put_fields.Given as goal
 
 abbrev pub invariant-loop-i : goal.invariant-loop-i

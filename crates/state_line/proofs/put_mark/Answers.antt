@@ -1,7 +1,6 @@
 use Rattle.text.specs.TextLaws.{nothing}
 use borrow.Author.Tests.{lt-ltb, le-ltb}
 use mathlib.Core.Path.{refl}
-use borrow.Author.Rules.{rules}
 use Rattle.state_line.proofs.put_mark.Goals as goal
 
 pub returns-then-mark-gt8 : goal.returns-then-mark-gt8

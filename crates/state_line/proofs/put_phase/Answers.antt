@@ -1,5 +1,4 @@
 use Rattle.text.specs.TextLaws.{◌then◌}
-use borrow.Author.Rules.{rules}
 use Rattle.state_line.proofs.put_phase.Goals as goal
 
 pub returns-in-Rest : goal.returns-in-Rest

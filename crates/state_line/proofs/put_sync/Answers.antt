@@ -1,4 +1,3 @@
-use borrow.Author.Rules.{rules}
 use Rattle.state_line.proofs.put_sync.Goals as goal
 
 pub returns : goal.returns

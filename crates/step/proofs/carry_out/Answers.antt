@@ -3,12 +3,11 @@ use Rattle.board.specs.Setters.{with_fault}
 use Rattle.work.specs.FaultApartLaws.{same_ending, same_work}
 use Rattle.step.specs.StepMirrorLaws.{board_left}
 use Rattle.step.proofs.NoWork.{no_work}
-use borrow.Author.Rules.{rules}
 use Rattle.step.proofs.carry_out.Goals as goal
 
 pub returns-then-leaves_board : goal.returns-then-leaves_board
 returns-then-leaves_board c = let at = c.args in
-    let found = c.make_access-access.ensures in 
+    let found = c.make_access-access.ensures in
     let stays = board_left c.in-Work.command at.board c.in-Work.address c.in-Work.value (sym c.leaves_board.ensures ∙ c.if-leaves_board.true) in
     let changes = same_work at.board at.fault c.in-Work.command c.in-Work.address c.in-Work.value in
     let ends = same_ending at.board at.fault c.in-Work.command c.in-Work.address in
@@ -16,7 +15,7 @@ returns-then-leaves_board c = let at = c.args in
 
 pub returns-else-leaves_board : goal.returns-else-leaves_board
 returns-else-leaves_board c = let at = c.args in
-    let found = c.make_access-access.ensures in 
+    let found = c.make_access-access.ensures in
     let changes = same_work at.board at.fault c.in-Work.command c.in-Work.address c.in-Work.value in
     let ends = same_ending at.board at.fault c.in-Work.command c.in-Work.address in
     let ending = c.find_ending-ending.ensures in

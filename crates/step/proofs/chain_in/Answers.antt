@@ -1,4 +1,3 @@
-use borrow.Author.Rules.{rules}
 use Rattle.step.proofs.chain_in.Goals as goal
 
 pub returns-in-Due : goal.returns-in-Due

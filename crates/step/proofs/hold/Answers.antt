@@ -1,4 +1,3 @@
-use borrow.Author.Rules.{rules}
 use Rattle.step.proofs.hold.Goals as goal
 
 pub returns : goal.returns

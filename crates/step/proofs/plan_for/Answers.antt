@@ -1,4 +1,3 @@
-use borrow.Author.Rules.{rules}
 use Rattle.step.specs.Step.{plan_for}
 use Rattle.step.proofs.plan_for.Goals as goal
 

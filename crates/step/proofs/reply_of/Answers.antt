@@ -1,5 +1,4 @@
 use Rattle.step.specs.Step.{reply_now}
-use borrow.Author.Rules.{rules}
 use Rattle.step.proofs.reply_of.Goals as goal
 
 pub returns-in-Rest : goal.returns-in-Rest

@@ -1,4 +1,3 @@
-use borrow.Author.Rules.{rules}
 use Rattle.step.proofs.settle_without_work.Goals as goal
 
 pub returns-in-Hold : goal.returns-in-Hold

@@ -1,5 +1,4 @@
 use Rattle.step.specs.Step.{stepped}
-use borrow.Author.Rules.{rules}
 use Rattle.step.proofs.take_word.Goals as goal
 
 pub returns : goal.returns

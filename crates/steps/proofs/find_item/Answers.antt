@@ -1,8 +1,5 @@
-use mathlib.Core.Path.{◌≡◌, refl, sym, ◌∙◌}
-use Prim.Native.Nat.{◌-◌}
+use mathlib.Core.Path.{refl, sym, ◌∙◌}
 use borrow.Author.Rules.{rules}
-use lib.ListN.{length}
-use Rattle.steps.specs.WalkStep.{step_from}
 use Rattle.steps.specs.WalkStepLaws.{step_value, step_own, step_on, step_past}
 use Rattle.steps.proofs.find_item.Goals as goal
 

@@ -1,10 +1,8 @@
 -- The loop's invariant: the step from cycle i on is the step from the place.
-use mathlib.Core.Path.{◌≡◌, refl, sym, ◌∙◌}
+use mathlib.Core.Path.{◌≡◌}
 use Prim.Native.Nat.{◌-◌}
-use borrow.Author.Rules.{rules}
 use lib.ListN.{length}
 use Rattle.steps.specs.WalkStep.{step_from}
-use Rattle.steps.specs.WalkStepLaws.{step_value, step_own, step_on, step_past}
 use Rattle.steps.proofs.find_item.Given as goal
 
 abbrev pub invariant-loop-i : goal.invariant-loop-i

@@ -1,6 +1,5 @@
 use mathlib.Core.Path.{sym, ◌∙◌}
 use Rattle.steps.specs.WalkStepLaws.{step_refused, step_read_lem}
-use borrow.Author.Rules.{rules}
 use Rattle.steps.proofs.step_at.Goals as goal
 
 pub returns-in-Refused : goal.returns-in-Refused

@@ -1,4 +1,3 @@
-use borrow.Author.Rules.{rules}
 use Rattle.talk_lines.proofs.ask_or.Goals as goal
 
 pub returns-in-For : goal.returns-in-For

@@ -1,5 +1,4 @@
 use Rattle.talk_lines.specs.TalkLines.{either_line}
-use borrow.Author.Rules.{rules}
 use Rattle.talk_lines.proofs.read_either_line.Goals as goal
 
 pub returns-in-Silent : goal.returns-in-Silent

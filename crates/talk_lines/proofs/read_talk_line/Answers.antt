@@ -1,4 +1,3 @@
-use borrow.Author.Rules.{rules}
 use Rattle.talk_lines.proofs.read_talk_line.Goals as goal
 
 pub returns-in-Board : goal.returns-in-Board

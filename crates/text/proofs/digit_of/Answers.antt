@@ -1,7 +1,6 @@
 use native.Mathlib.Omega.{arith}
 use borrow.Author.Tests.{lt-ltb, le-ltb}
 use Rattle.text.specs.NumberText.{digit_text}
-use borrow.Author.Rules.{rules}
 use Rattle.text.proofs.digit_of.Goals as goal
 
 pub returns-then-low-lt10 : goal.returns-then-low-lt10

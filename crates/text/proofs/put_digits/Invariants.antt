@@ -1,11 +1,7 @@
-use mathlib.Core.Path.{◌≡◌, refl}
-use native.Mathlib.Omega.{arith}
-use native.Mathlib.Nat.{mod-lt}
-use Rattle.text.specs.TextLaws.{Remains, all_remains, rest_remains, none_remains}
+use mathlib.Core.Path.{◌≡◌}
+use Rattle.text.specs.TextLaws.{Remains}
 use Rattle.text.specs.NumberText.{digits_text}
-use Rattle.text.proofs.NumberTextLaws.{digits_on, digits_none}
 use lib.ListN.{length}
-use borrow.Author.Rules.{rules}
 use Rattle.text.proofs.put_digits.Given as goal
 
 abbrev pub invariant-loop-left : goal.invariant-loop-left

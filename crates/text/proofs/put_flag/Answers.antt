@@ -1,4 +1,3 @@
-use borrow.Author.Rules.{rules}
 use Rattle.text.proofs.put_flag.Goals as goal
 
 pub returns-then-flag : goal.returns-then-flag

@@ -1,8 +1,7 @@
-use lib.ListN.{length, drop, drop_of_length-le}
+use lib.ListN.{drop_of_length-le}
 use Rattle.laws.specs.PlaceLaws.{from_here}
-use Rattle.text.specs.TextLaws.{Remains, all_remains, rest_remains, none_remains}
-use Prim.Native.Nat.{◌≤◌, ◌-◌}
-use mathlib.Core.Path.{◌≡◌, refl}
+use Rattle.text.specs.TextLaws.{all_remains, rest_remains, none_remains}
+use mathlib.Core.Path.{refl}
 use native.Mathlib.Omega.{arith}
 use borrow.Author.Rules.{rules}
 use Rattle.text.proofs.put_text.Goals as goal

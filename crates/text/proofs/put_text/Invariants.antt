@@ -1,10 +1,7 @@
-use lib.ListN.{length, drop, drop_of_length-le}
-use Rattle.laws.specs.PlaceLaws.{from_here}
-use Rattle.text.specs.TextLaws.{Remains, all_remains, rest_remains, none_remains}
+use lib.ListN.{length, drop}
+use Rattle.text.specs.TextLaws.{Remains}
 use Prim.Native.Nat.{◌≤◌, ◌-◌}
-use mathlib.Core.Path.{◌≡◌, refl}
-use native.Mathlib.Omega.{arith}
-use borrow.Author.Rules.{rules}
+use mathlib.Core.Path.{◌≡◌}
 use Rattle.text.proofs.put_text.Given as goal
 
 abbrev pub invariant-loop-i : goal.invariant-loop-i

@@ -1,7 +1,5 @@
-use Prim.Native.Nat.{◌/◌, ◌^◌}
-use mathlib.Core.Path.{◌≡◌, refl, sym, ◌∙◌}
+use mathlib.Core.Path.{refl, sym, ◌∙◌}
 use Rattle.text.proofs.NumberTextLaws.{shift_step, shift_done}
-use borrow.Author.Rules.{rules}
 use Rattle.text.proofs.shifted.Goals as goal
 
 pub loop-left-init : goal.loop-left-init

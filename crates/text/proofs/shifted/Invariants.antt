@@ -1,7 +1,5 @@
 use Prim.Native.Nat.{◌/◌, ◌^◌}
-use mathlib.Core.Path.{◌≡◌, refl, sym, ◌∙◌}
-use Rattle.text.proofs.NumberTextLaws.{shift_step, shift_done}
-use borrow.Author.Rules.{rules}
+use mathlib.Core.Path.{◌≡◌}
 use Rattle.text.proofs.shifted.Given as goal
 
 abbrev pub invariant-loop-left : goal.invariant-loop-left

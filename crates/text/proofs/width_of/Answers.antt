@@ -1,9 +1,8 @@
-use Prim.Native.Nat.{◌≤◌, ◌-◌, ◌/◌, ◌^◌}
+use Prim.Native.Nat.{◌-◌}
 use mathlib.Core.Path.{◌≡◌, refl, sym, ◌∙◌}
 use native.Mathlib.Omega.{arith}
 use Rattle.text.specs.NumberText.{width_from}
 use Rattle.text.proofs.NumberTextLaws.{width_here, width_next, left_none, left_some, left_first, left_next}
-use borrow.Author.Rules.{rules}
 use Rattle.text.proofs.width_of.Goals as goal
 
 pub loop-digits-init : goal.loop-digits-init

@@ -1,9 +1,6 @@
 use Prim.Native.Nat.{◌≤◌, ◌-◌, ◌/◌, ◌^◌}
-use mathlib.Core.Path.{◌≡◌, refl, sym, ◌∙◌}
-use native.Mathlib.Omega.{arith}
+use mathlib.Core.Path.{◌≡◌}
 use Rattle.text.specs.NumberText.{width_from}
-use Rattle.text.proofs.NumberTextLaws.{width_here, width_next, left_none, left_some, left_first, left_next}
-use borrow.Author.Rules.{rules}
 use Rattle.text.proofs.width_of.Given as goal
 
 abbrev pub invariant-loop-digits : goal.invariant-loop-digits

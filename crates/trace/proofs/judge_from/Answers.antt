@@ -1,13 +1,13 @@
 use borrow.Author.Tests.{eq-eqb, ne_eqb, lt-ltb}
-use mathlib.Core.Path.{◌≡◌, ap, sym, ◌∙◌}
-use Prim.Native.Nat.{◌+◌, ◌-◌}
+use mathlib.Core.Path.{ap, sym, ◌∙◌}
+use Prim.Native.Nat.{◌-◌}
 use native.Mathlib.Nat.{zero-add}
 use native.Mathlib.Omega.{arith}
 use borrow.Author.Rules.{rules}
 use lib.ListN.{length}
 use Rattle.trace.specs.Items.{items_to_end}
 use Rattle.trace.specs.ItemsFromLaws.{count_to_end, to_end_none, items_from_le}
-use Rattle.trace.specs.TraceReading.{counted, too_long, earliest, ends_inside, judged_from, reading_from}
+use Rattle.trace.specs.TraceReading.{counted, too_long, judged_from, reading_from}
 use Rattle.trace.proofs.TraceReadingLaws.{earliest_reserved, earliest_too_soon, earliest_passes, earliest_ends, reading_short}
 use Rattle.trace.proofs.judge_from.Goals as goal
 

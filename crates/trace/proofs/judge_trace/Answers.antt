@@ -1,6 +1,5 @@
 use mathlib.Core.Path.{◌∙◌}
 use Rattle.trace.proofs.TraceReadingLaws.{reading_whole}
-use borrow.Author.Rules.{rules}
 use Rattle.trace.proofs.judge_trace.Goals as goal
 
 pub returns : goal.returns

@@ -1,5 +1,4 @@
 use Rattle.text.specs.TextLaws.{◌then◌}
-use borrow.Author.Rules.{rules}
 use Rattle.trace_list.proofs.add_item.Goals as goal
 
 -- src/main.rt:48:1

@@ -1,6 +1,5 @@
 use native.Mathlib.Omega.{arith}
 use mathlib.Core.List.{[]}
-use borrow.Author.Rules.{rules}
 use Rattle.trace_list.proofs.answer.Goals as goal
 
 -- src/main.rt:198:1

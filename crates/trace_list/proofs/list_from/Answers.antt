@@ -1,5 +1,4 @@
 use Rattle.trace_list.specs.RestPartsLaws.{rest_refused, rest_listed}
-use borrow.Author.Rules.{rules}
 use Rattle.trace_list.proofs.list_from.Goals as goal
 
 -- src/main.rt:163:1

@@ -1,5 +1,4 @@
 use lib.ListN.{length-replicate}
-use borrow.Author.Rules.{rules}
 use Rattle.trace_list.proofs.list_rest.Goals as goal
 
 -- src/main.rt:189:1

@@ -1,5 +1,4 @@
 use Rattle.trace_list.specs.Asked.{none, one, more}
-use borrow.Author.Rules.{rules}
 use Rattle.trace_list.proofs.read_asked.Goals as goal
 
 -- src/main.rt:214:9

@@ -1,5 +1,4 @@
 use Rattle.console.specs.LineWritingLaws.{line_laid}
-use borrow.Author.Rules.{rules}
 use Rattle.trace_list.proofs.say_head.Goals as goal
 
 -- src/main.rt:98:1

@@ -1,6 +1,5 @@
 use mathlib.Core.Path.{refl}
 use Rattle.trace_list.specs.RestPartsLaws.{from_beyond, from_unlisted, from_entry}
-use borrow.Author.Rules.{rules}
 use Rattle.trace_list.proofs.write_from.Goals as goal
 
 -- src/main.rt:153:9

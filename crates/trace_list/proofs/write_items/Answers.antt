@@ -1,10 +1,8 @@
 use native.Mathlib.Omega.{arith}
-use Rattle.trace_list.specs.ListerLines.{item_lines}
-use Rattle.console.specs.GatheringLaws.{Gathering, gathers_none, gathers_line, gathers_all}
+use Rattle.console.specs.GatheringLaws.{gathers_none, gathers_line, gathers_all}
 use Rattle.trace_list.specs.ListerGatheringLaws.{lines_on, lines_out}
-use Prim.Native.Nat.{◌≤◌, ◌-◌, ◌*◌}
-use lib.ListN.{length, drop}
-use mathlib.Core.Path.{◌≡◌, refl}
+use Prim.Native.Nat.{◌-◌}
+use mathlib.Core.Path.{refl}
 use borrow.Author.Rules.{rules}
 use Rattle.trace_list.proofs.write_items.Goals as goal
 

@@ -1,11 +1,8 @@
-use native.Mathlib.Omega.{arith}
 use Rattle.trace_list.specs.ListerLines.{item_lines}
-use Rattle.console.specs.GatheringLaws.{Gathering, gathers_none, gathers_line, gathers_all}
-use Rattle.trace_list.specs.ListerGatheringLaws.{lines_on, lines_out}
+use Rattle.console.specs.GatheringLaws.{Gathering}
 use Prim.Native.Nat.{◌≤◌, ◌-◌, ◌*◌}
 use lib.ListN.{length, drop}
-use mathlib.Core.Path.{◌≡◌, refl}
-use borrow.Author.Rules.{rules}
+use mathlib.Core.Path.{◌≡◌}
 use Rattle.trace_list.proofs.write_items.Given as goal
 
 abbrev pub invariant-loop-k : goal.invariant-loop-k

@@ -1,16 +1,10 @@
 use Rattle.trace.specs.Items.{items, words}
 use Rattle.trace_list.specs.ListerLines.{item_lines}
 use Rattle.trace_list.specs.ListerPartsMirror.{GoodStart}
-use Rattle.console.specs.GatheringLaws.{Gathering, gathers_none, gathers_line, gathers_all}
-use Rattle.trace_list.specs.ListerGatheringLaws.{start_rest, stays_good, item_first}
-use Rattle.trace_list.proofs.NoItem.{none_left}
-use mathlib.Core.Path.{◌≡◌, refl, ap, sym, ◌∙◌}
-use native.Mathlib.Omega.{arith}
+use Rattle.console.specs.GatheringLaws.{Gathering}
+use mathlib.Core.Path.{◌≡◌}
 use lib.ListN.{length}
-use borrow.Author.Rules.{rules}
-use Rattle.steps.specs.declared.Step.{Step}
-use Rattle.steps.specs.WalkStepLaws.{handed_within}
-use Rattle.walk.specs.WalkRestLaws.{rest, rest_falls}
+use Rattle.walk.specs.WalkRestLaws.{rest}
 use Rattle.trace_list.proofs.write_walk.Given as goal
 
 abbrev pub invariant-loop-item : goal.invariant-loop-item

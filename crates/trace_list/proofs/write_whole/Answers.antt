@@ -1,5 +1,4 @@
 use Rattle.trace_list.specs.ListerGatheringLaws.{whole_refused, whole_listed}
-use borrow.Author.Rules.{rules}
 use Rattle.trace_list.proofs.write_whole.Goals as goal
 
 -- src/main.rt:133:13

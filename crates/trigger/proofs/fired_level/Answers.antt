@@ -1,6 +1,5 @@
 use Rattle.trigger.specs.Fired.{fired_level}
 use borrow.Author.Tests.{eq-eqb, ne_eqb}
-use borrow.Author.Rules.{rules}
 use Rattle.trigger.proofs.fired_level.Goals as goal
 
 pub returns-then-is_fired : goal.returns-then-is_fired

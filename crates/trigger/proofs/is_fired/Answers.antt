@@ -1,5 +1,4 @@
 use Rattle.trigger.specs.Fired.{fires}
-use borrow.Author.Rules.{rules}
 use Rattle.trigger.proofs.is_fired.Goals as goal
 
 pub returns : goal.returns

@@ -1,5 +1,4 @@
 use Rattle.text.specs.TextLaws.{◌then◌}
-use borrow.Author.Rules.{rules}
 use Rattle.unmend_text.proofs.put_unmended.Goals as goal
 
 pub returns-in-Recorded : goal.returns-in-Recorded

@@ -1,4 +1,3 @@
-use borrow.Author.Rules.{rules}
 use Rattle.unmend_text.proofs.tell_unmended.Goals as goal
 
 pub returns : goal.returns

@@ -1,5 +1,4 @@
 use Rattle.unmend_text.specs.UnmendTextLaws.{behind_part, behind_meets}
-use borrow.Author.Rules.{rules}
 use Rattle.unmend_text.proofs.unmend_behind.Goals as goal
 
 pub returns : goal.returns

@@ -1,9 +1,6 @@
-use mathlib.Core.Path.{◌≡◌, refl, ap, sym, ◌∙◌}
-use Prim.Native.Nat.{◌-◌}
-use native.Mathlib.Omega.{arith}
+use mathlib.Core.Path.{refl, ap, sym, ◌∙◌}
 use borrow.Author.Rules.{rules}
-use lib.ListN.{length, drop, get_or}
-use Rattle.unmending.specs.Unmending.{put_back}
+use lib.ListN.{length, get_or}
 use Rattle.unmending.specs.UnmendingLaws.{put_next, put_none, put_word_length}
 use Rattle.unmending.proofs.put_back.Goals as goal
 

@@ -1,11 +1,8 @@
 -- The loop's invariant: the words from word k on, put back here, make what all of them make of the trace as given.
-use mathlib.Core.Path.{◌≡◌, refl, ap, sym, ◌∙◌}
+use mathlib.Core.Path.{◌≡◌}
 use Prim.Native.Nat.{◌-◌}
-use native.Mathlib.Omega.{arith}
-use borrow.Author.Rules.{rules}
-use lib.ListN.{length, drop, get_or}
+use lib.ListN.{length, drop}
 use Rattle.unmending.specs.Unmending.{put_back}
-use Rattle.unmending.specs.UnmendingLaws.{put_next, put_none, put_word_length}
 use Rattle.unmending.proofs.put_back.Given as goal
 
 abbrev pub invariant-loop-k : goal.invariant-loop-k

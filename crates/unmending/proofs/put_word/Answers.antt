@@ -1,7 +1,6 @@
 use mathlib.Core.Path.{sym}
 use lib.Seq.{set_out}
 use borrow.Author.Rules.{rules}
-use Rattle.unmending.proofs.put_word.Lts as lts
 use Rattle.unmending.proofs.put_word.Goals as goal
 
 pub returns-else-cycle-trace : goal.returns-else-cycle-trace

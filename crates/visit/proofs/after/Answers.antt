@@ -1,6 +1,5 @@
 use borrow.Author.Tests.{lt-ltb, le-ltb}
 use native.Mathlib.Numerals.{add-one}
-use borrow.Author.Rules.{rules}
 use Rattle.visit.proofs.after.Goals as goal
 
 pub returns-then-j-ends : goal.returns-then-j-ends

@@ -1,7 +1,5 @@
 use mathlib.Core.Path.{sym, ◌∙◌}
-use borrow.Author.Tests.{not-true, not-false}
 use Rattle.visit.specs.Visit.{closed_by}
-use borrow.Author.Rules.{rules}
 use Rattle.visit.proofs.close.Goals as goal
 
 pub returns-then-not-is_notable : goal.returns-then-not-is_notable
@@ -10,5 +8,5 @@ returns-then-not-is_notable c = simp (sym c.is_notable.ensures, c.if-not-is_nota
 
 pub returns : goal.returns
 unfolding closed_by
-returns c = let worthy = sym c.is_notable.ensures ∙ c.if-not-is_notable.false in 
+returns c = let worthy = sym c.is_notable.ensures ∙ c.if-not-is_notable.false in
     simp (worthy, c.ends_after-ends.ensures, c.after-at.ensures, c.count.ensures, c.stage_after.ensures)

@@ -1,6 +1,5 @@
 use borrow.Author.Tests.{lt-ltb, le-ltb}
 use native.Mathlib.Numerals.{add-one}
-use borrow.Author.Rules.{rules}
 use Rattle.visit.proofs.count.Goals as goal
 
 pub returns-then-packets-lt4294967295 : goal.returns-then-packets-lt4294967295

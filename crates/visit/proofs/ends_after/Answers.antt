@@ -1,5 +1,4 @@
 use mathlib.Core.Path.{sym}
-use borrow.Author.Rules.{rules}
 use Rattle.visit.proofs.ends_after.Goals as goal
 
 pub returns-then-is_bus_error : goal.returns-then-is_bus_error

@@ -1,7 +1,6 @@
 use mathlib.Core.Path.{sym, ◌∙◌}
-use borrow.Author.Tests.{lt-ltb, le-ltb, not-true, not-false}
+use borrow.Author.Tests.{lt-ltb, le-ltb}
 use Rattle.visit.specs.HandedOver.{handed_over}
-use borrow.Author.Rules.{rules}
 use Rattle.visit.proofs.hand_over.Goals as goal
 
 pub returns-then-not-is_as_read : goal.returns-then-not-is_as_read

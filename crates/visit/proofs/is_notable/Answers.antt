@@ -1,5 +1,4 @@
 use mathlib.Core.Path.{sym}
-use borrow.Author.Rules.{rules}
 use Rattle.visit.proofs.is_notable.Goals as goal
 
 pub returns-then-is_illegal : goal.returns-then-is_illegal

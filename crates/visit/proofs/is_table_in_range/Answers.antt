@@ -1,5 +1,4 @@
 use borrow.Author.Tests.{le-leb, lt-leb, eq-eqb, ne_eqb}
-use borrow.Author.Rules.{rules}
 use Rattle.visit.proofs.is_table_in_range.Goals as goal
 
 pub returns-then-address-ne0 : goal.returns-then-address-ne0

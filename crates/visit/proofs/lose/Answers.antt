@@ -1,7 +1,6 @@
 use mathlib.Core.Path.{sym, ◌∙◌}
 use Rattle.visit.specs.VisitLaws.{over_is_not_lost}
 use Rattle.visit.specs.Visit.{lost}
-use borrow.Author.Rules.{rules}
 use Rattle.visit.proofs.lose.Goals as goal
 
 pub returns-then-is_over : goal.returns-then-is_over

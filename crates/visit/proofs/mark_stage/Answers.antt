@@ -1,7 +1,6 @@
 use mathlib.Core.Path.{sym}
-use borrow.Author.Tests.{le-leb, lt-leb, lt-ltb, le-ltb, not-true, not-false}
+use borrow.Author.Tests.{le-leb, lt-leb, lt-ltb, le-ltb}
 use native.Mathlib.Numerals.{add-one}
-use borrow.Author.Rules.{rules}
 use Rattle.visit.proofs.mark_stage.Goals as goal
 
 pub returns-then-not-is_due : goal.returns-then-not-is_due

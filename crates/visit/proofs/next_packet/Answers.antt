@@ -1,5 +1,4 @@
 use Rattle.visit.specs.Visit.{next_of}
-use borrow.Author.Rules.{rules}
 use Rattle.visit.proofs.next_packet.Goals as goal
 
 pub returns-in-Marking : goal.returns-in-Marking

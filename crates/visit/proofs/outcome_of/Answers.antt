@@ -1,5 +1,4 @@
 use borrow.Author.Tests.{lt-ltb, le-ltb, eq-eqb, ne_eqb}
-use borrow.Author.Rules.{rules}
 use Rattle.visit.proofs.outcome_of.Goals as goal
 
 pub returns-then-note-lt4294967296 : goal.returns-then-note-lt4294967296

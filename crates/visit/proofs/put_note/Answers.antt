@@ -1,6 +1,5 @@
 use mathlib.Core.Path.{sym}
 use lib.Seq.{set_out}
-use borrow.Author.Rules.{rules}
 use Rattle.visit.proofs.put_note.Goals as goal
 
 pub returns-else-i-notes : goal.returns-else-i-notes

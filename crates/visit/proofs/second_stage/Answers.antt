@@ -1,6 +1,5 @@
 use borrow.Author.Tests.{lt-ltb, le-ltb}
 use native.Mathlib.Numerals.{add-one}
-use borrow.Author.Rules.{rules}
 use Rattle.visit.proofs.second_stage.Goals as goal
 
 pub returns-then-sent-lt-PATIENCE : goal.returns-then-sent-lt-PATIENCE

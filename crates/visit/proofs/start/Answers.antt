@@ -1,6 +1,6 @@
 use Rattle.visit.specs.VisitLaws.{table_bound}
 use mathlib.Core.Path.{sym, ◌∙◌}
-use borrow.Author.Tests.{le-leb, lt-leb, not-true, not-false}
+use borrow.Author.Tests.{le-leb, lt-leb}
 use borrow.Author.Rules.{rules}
 use Rattle.visit.proofs.start.Goals as goal
 

@@ -1,6 +1,5 @@
 use borrow.Author.Tests.{eq-eqb, ne_eqb}
 use mathlib.Core.Path.{sym, refl}
-use borrow.Author.Rules.{rules}
 use Rattle.visit.proofs.take_answer.Goals as goal
 
 pub returns-then-sent-eq0 : goal.returns-then-sent-eq0

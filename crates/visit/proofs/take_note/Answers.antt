@@ -1,5 +1,4 @@
 use mathlib.Core.Path.{sym, ◌∙◌}
-use borrow.Author.Rules.{rules}
 use Rattle.visit.proofs.take_note.Goals as goal
 
 pub returns-then-is_notable : goal.returns-then-is_notable

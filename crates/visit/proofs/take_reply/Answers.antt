@@ -2,7 +2,6 @@ use borrow.Author.Tests.{le-leb, lt-leb}
 use mathlib.Core.Path.{sym, refl, ◌∙◌}
 use Rattle.visit.specs.Visit.{heard, noted}
 use Rattle.visit.specs.VisitLaws.{over_stays, over_notes_nothing}
-use borrow.Author.Rules.{rules}
 use Rattle.visit.proofs.take_reply.Goals as goal
 
 pub returns-then-is_over : goal.returns-then-is_over

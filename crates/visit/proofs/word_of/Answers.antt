@@ -1,7 +1,6 @@
 use Rattle.visit.specs.VisitWordLaws.{asked_then_nops, asked_words_end}
 use mathlib.Core.Path.{sym}
 use Rattle.visit.specs.VisitWordLaws.{asked_then_nops}
-use borrow.Author.Rules.{rules}
 use Rattle.visit.proofs.word_of.Goals as goal
 
 pub returns-then-i-lt5 : goal.returns-then-i-lt5

@@ -1,4 +1,3 @@
-use borrow.Author.Rules.{rules}
 use Rattle.visit_text.proofs.put_reason.Goals as goal
 
 pub returns-in-Late : goal.returns-in-Late

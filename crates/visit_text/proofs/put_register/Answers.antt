@@ -1,6 +1,5 @@
 use Rattle.text.specs.TextLaws.{◌then◌}
 use borrow.Author.Tests.{lt-ltb, le-ltb}
-use borrow.Author.Rules.{rules}
 use Rattle.visit_text.proofs.put_register.Goals as goal
 
 pub returns-then-j-lt8 : goal.returns-then-j-lt8

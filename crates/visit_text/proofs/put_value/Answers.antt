@@ -1,4 +1,3 @@
-use borrow.Author.Rules.{rules}
 use Rattle.visit_text.proofs.put_value.Goals as goal
 
 pub returns-in-Value : goal.returns-in-Value

@@ -5,7 +5,6 @@ use Rattle.answers.specs.Bench.{Left, left}
 use lib.ListN.{length-take}
 use native.Mathlib.Omega.{arith}
 use Rattle.lent.specs.LentLaws.{lent_part}
-use borrow.Author.Rules.{rules}
 use Rattle.waits_lines.proofs.ask.Goals as goal
 
 pub slice_bounds-converse-end-2 : goal.slice_bounds-converse-end-2

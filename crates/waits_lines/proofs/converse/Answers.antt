@@ -2,7 +2,6 @@ use Rattle.asking.specs.AskingLaws.{exchange_outcome}
 use mathlib.Core.Path.{ap}
 use Rattle.board.specs.State.{State}
 use Rattle.answers.specs.Bench.{with_state}
-use borrow.Author.Rules.{rules}
 use Rattle.waits_lines.proofs.converse.Goals as goal
 
 pub returns : goal.returns

@@ -1,4 +1,3 @@
-use borrow.Author.Rules.{rules}
 use Rattle.waits_lines.proofs.is_taken.Goals as goal
 
 pub returns-in-Board : goal.returns-in-Board

@@ -1,10 +1,7 @@
-use Prim.Native.Nat.{◌+◌, ◌-◌}
-use mathlib.Core.Path.{◌≡◌, refl, sym, ◌∙◌}
+use Prim.Native.Nat.{◌-◌}
+use mathlib.Core.Path.{refl, sym, ◌∙◌}
 use native.Mathlib.Omega.{arith}
-use lib.ListN.{length, drop}
-use Rattle.waits_lines.specs.WaitsLines.{line_length}
 use Rattle.waits_lines.specs.WaitsLinesLaws.{line_stops, line_goes_on, line_out}
-use borrow.Author.Rules.{rules}
 use Rattle.waits_lines.proofs.line_end.Goals as goal
 
 pub loop-i-init : goal.loop-i-init

@@ -1,13 +1,7 @@
-use Prim.Native.Nat.{suc, ◌+◌, ◌-◌, ◌≤◌}
-use mathlib.Core.Path.{◌≡◌, refl, sym, ◌∙◌}
-use mathlib.Core.Bool.{cond}
-use mathlib.Core.Logic.{⊎_elim}
-use native.Mathlib.Omega.{arith}
-use native.Mathlib.Numerals.{add-one}
+use Prim.Native.Nat.{◌+◌, ◌-◌, ◌≤◌}
+use mathlib.Core.Path.{◌≡◌}
 use lib.ListN.{length, drop}
 use Rattle.waits_lines.specs.WaitsLines.{numbered, line_number}
-use Rattle.waits_lines.specs.WaitsLinesLaws.{numbered_on, numbered_out}
-use borrow.Author.Rules.{rules}
 use Rattle.waits_lines.proofs.line_number.Given as goal
 
 abbrev pub invariant-loop-i : goal.invariant-loop-i

@@ -1,4 +1,3 @@
-use borrow.Author.Rules.{rules}
 use Rattle.waits_lines.proofs.prepare.Goals as goal
 
 pub returns : goal.returns

@@ -1,4 +1,3 @@
-use borrow.Author.Rules.{rules}
 use Rattle.waits_lines.proofs.prepares.Goals as goal
 
 pub returns-in-Bytes : goal.returns-in-Bytes

@@ -1,4 +1,3 @@
-use borrow.Author.Rules.{rules}
 use Rattle.waits_lines.proofs.put_result.Goals as goal
 
 pub returns-in-Ended : goal.returns-in-Ended

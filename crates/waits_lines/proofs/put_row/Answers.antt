@@ -1,8 +1,5 @@
-use mathlib.Core.Path.{sym}
-use lib.Seq.{length-take-le}
 use Rattle.text.specs.TextLaws.{◌then◌, told_whole}
 use Rattle.waits_lines.specs.WaitsLinesLaws.{result_length}
-use borrow.Author.Rules.{rules}
 use Rattle.waits_lines.proofs.put_row.Goals as goal
 
 -- LEFT Need-slice-aggregate-put-text-2

@@ -1,6 +1,5 @@
 use mathlib.Core.Path.{refl}
 use Rattle.text.specs.TextLaws.{nothing}
-use borrow.Author.Rules.{rules}
 use Rattle.waits_lines.proofs.take_line.Goals as goal
 
 pub returns-in-Board : goal.returns-in-Board

@@ -1,14 +1,12 @@
-use borrow.Author.Tests.{not-true, not-false}
-use Prim.Native.Nat.{ℕ, ◌+◌, ◌-◌, ◌≤◌, ◌<◌}
+use Prim.Native.Nat.{◌-◌, ◌≤◌, ◌<◌}
 use mathlib.Core.Path.{◌≡◌, refl, sym, ap, ◌∙◌}
-use mathlib.Core.Bool.{Bool, true, false}
-use mathlib.Core.List.{List}
+use mathlib.Core.Bool.{true, false}
 use native.Mathlib.Omega.{arith}
 use lib.ListN.{length, take, drop}
 use Rattle.answers.specs.Bench.{left}
 use Rattle.talk_lines.specs.declared.TalkLine.{TalkLine}
 use Rattle.waits_lines.specs.WaitsLines.{is_taken, taken_in}
-use Rattle.waits_lines.specs.WaitsLinesLaws.{line_end_within, Rests, rests_whole, rests_on, rests_stray, rests_out}
+use Rattle.waits_lines.specs.WaitsLinesLaws.{line_end_within, rests_whole, rests_on, rests_stray, rests_out}
 use borrow.Author.Rules.{rules}
 use Rattle.waits_lines.proofs.take_lines.Goals as goal
 

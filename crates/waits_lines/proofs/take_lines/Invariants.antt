@@ -1,16 +1,8 @@
-use borrow.Author.Tests.{not-true, not-false}
-use Prim.Native.Nat.{ℕ, ◌+◌, ◌-◌, ◌≤◌, ◌<◌}
-use mathlib.Core.Path.{◌≡◌, refl, sym, ap, ◌∙◌}
-use mathlib.Core.Bool.{Bool, true, false}
-use mathlib.Core.List.{List}
-use native.Mathlib.Omega.{arith}
-use lib.ListN.{length, take, drop}
+use Prim.Native.Nat.{◌+◌, ◌-◌, ◌≤◌}
+use mathlib.Core.Path.{◌≡◌}
+use lib.ListN.{length}
 use Rattle.answers.specs.Bench.{left}
-use Rattle.talk_lines.specs.declared.TalkLine.{TalkLine}
-use Rattle.waits_lines.specs.WaitsLines.{is_taken, taken_in}
-use Rattle.waits_lines.specs.WaitsLinesLaws.{line_end_within, Rests, rests_whole, rests_on, rests_stray, rests_out}
-use borrow.Author.Rules.{rules}
-use Rattle.waits_lines.proofs.take_lines.Lts as lts
+use Rattle.waits_lines.specs.WaitsLinesLaws.{Rests}
 use Rattle.waits_lines.proofs.take_lines.Given as goal
 
 abbrev pub invariant-loop-from : goal.invariant-loop-from

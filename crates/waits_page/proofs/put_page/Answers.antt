@@ -2,7 +2,6 @@ use mathlib.Core.Path.{sym, ◌∙◌}
 use Rattle.waits_setting.specs.WaitsSetting.{came_of}
 use Rattle.waits_page.specs.WaitsPage.{room_in}
 use Rattle.waits_page.specs.WaitsPageLaws.{page_long, page_stray, page_compared, all_put, due_worked, left_long, left_stray, left_compared}
-use borrow.Author.Rules.{rules}
 use Rattle.waits_page.proofs.put_page.Goals as goal
 
 -- src/lib.rt:90:9

@@ -1,12 +1,10 @@
 use borrow.Author.Rules.{rules}
-use mathlib.Core.Path.{◌≡◌, refl}
+use mathlib.Core.Path.{refl}
 use native.Mathlib.Omega.{arith}
 use borrow.Author.Tests.{le-leb}
-use Prim.Native.Nat.{◌-◌, ◌≤◌}
-use lib.ListN.{length}
+use Prim.Native.Nat.{◌-◌}
 use Rattle.waits_setting.specs.WaitsSetting.{came_of}
-use Rattle.waits_page.specs.WaitsPage.{worked_in}
-use Rattle.waits_page.specs.WaitsPageLaws.{setting_judged, Onward, onward_next, onward_ends, worked_next, worked_ends}
+use Rattle.waits_page.specs.WaitsPageLaws.{setting_judged, onward_next, onward_ends, worked_next, worked_ends}
 use Rattle.waits_page.proofs.put_settings.Goals as goal
 
 -- src/lib.rt:35:5

@@ -1,5 +1,4 @@
 use Rattle.text.specs.TextLaws.{◌then◌}
-use borrow.Author.Rules.{rules}
 use Rattle.waits_page.proofs.put_unclear.Goals as goal
 
 -- src/lib.rt:66:1

@@ -1,4 +1,3 @@
-use borrow.Author.Rules.{rules}
 use Rattle.waits_page.proofs.put_verdict.Goals as goal
 
 -- src/lib.rt:61:9

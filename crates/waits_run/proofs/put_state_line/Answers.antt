@@ -1,6 +1,5 @@
 use Rattle.text.specs.TextLaws.{◌then◌}
 use Rattle.text.specs.TextPartLaws.{puts_in_rest}
-use borrow.Author.Rules.{rules}
 use Rattle.waits_run.proofs.put_state_line.Goals as goal
 
 -- src/lib.rt:39:1

@@ -1,5 +1,4 @@
 use Rattle.waits_run.specs.WaitsRunLaws.{run_so}
-use borrow.Author.Rules.{rules}
 use Rattle.waits_run.proofs.run_at.Goals as goal
 
 -- src/lib.rt:50:1

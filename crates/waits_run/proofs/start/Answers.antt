@@ -1,6 +1,5 @@
 use Rattle.waits_run.specs.WaitsRun.{start_at}
 use Rattle.waits_run.specs.WaitsRunLaws.{cleared_whole}
-use borrow.Author.Rules.{rules}
 use Rattle.waits_run.proofs.start.Goals as goal
 
 -- src/lib.rt:22:1

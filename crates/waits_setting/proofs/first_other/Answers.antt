@@ -1,10 +1,6 @@
-use Prim.Native.Nat.{◌+◌, ◌-◌}
-use mathlib.Core.Path.{◌≡◌}
+use Prim.Native.Nat.{◌-◌}
 use native.Mathlib.Omega.{arith}
-use lib.ListN.{length, drop}
-use Rattle.waits_setting.specs.WaitsSetting.{first_other}
 use Rattle.waits_setting.specs.WaitsSettingLaws.{same_so_far, differs_here, due_ends, came_ends}
-use borrow.Author.Rules.{rules}
 use Rattle.waits_setting.proofs.first_other.Goals as goal
 
 pub loop-i-init : goal.loop-i-init

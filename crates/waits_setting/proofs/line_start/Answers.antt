@@ -1,10 +1,7 @@
 use Prim.Native.Nat.{◌-◌}
-use mathlib.Core.Path.{◌≡◌, refl, sym, ◌∙◌}
-use lib.ListN.{length, drop}
-use Rattle.waits_setting.specs.WaitsSetting.{line_start}
+use mathlib.Core.Path.{refl, sym, ◌∙◌}
 use Rattle.waits_setting.specs.WaitsSettingLaws.{start_on, start_out}
 use borrow.Author.Tests.{eq-eqb, ne_eqb}
-use borrow.Author.Rules.{rules}
 use Rattle.waits_setting.proofs.line_start.Goals as goal
 
 pub loop-i-init : goal.loop-i-init

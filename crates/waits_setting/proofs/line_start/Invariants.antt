@@ -1,10 +1,7 @@
 use Prim.Native.Nat.{◌-◌}
-use mathlib.Core.Path.{◌≡◌, refl, sym, ◌∙◌}
+use mathlib.Core.Path.{◌≡◌}
 use lib.ListN.{length, drop}
 use Rattle.waits_setting.specs.WaitsSetting.{line_start}
-use Rattle.waits_setting.specs.WaitsSettingLaws.{start_on, start_out}
-use borrow.Author.Tests.{eq-eqb, ne_eqb}
-use borrow.Author.Rules.{rules}
 use Rattle.waits_setting.proofs.line_start.Given as goal
 
 abbrev pub invariant-loop-i : goal.invariant-loop-i

@@ -1,6 +1,5 @@
 use mathlib.Core.Path.{refl}
 use Rattle.text.specs.TextLaws.{◌then◌}
-use borrow.Author.Rules.{rules}
 use Rattle.waits_setting.proofs.put_judged.Goals as goal
 
 pub returns-then-is_same-2 : goal.returns-then-is_same-2

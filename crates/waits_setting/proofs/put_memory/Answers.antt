@@ -1,5 +1,4 @@
 use Rattle.text.specs.TextLaws.{◌then◌}
-use borrow.Author.Rules.{rules}
 use Rattle.waits_setting.proofs.put_memory.Goals as goal
 
 pub returns : goal.returns

@@ -1,5 +1,4 @@
 use Rattle.waits_setting.specs.WaitsSettingLaws.{other_line_lem}
-use borrow.Author.Rules.{rules}
 use Rattle.waits_setting.proofs.put_other_line.Goals as goal
 
 pub returns : goal.returns

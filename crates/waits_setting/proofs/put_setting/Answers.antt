@@ -1,11 +1,10 @@
 use Rattle.text.specs.TextLaws.{◌then◌}
 use Rattle.waits_setting.specs.WaitsSetting.{setting_text}
-use borrow.Author.Rules.{rules}
 use Rattle.waits_setting.proofs.put_setting.Goals as goal
 
 pub returns : goal.returns
 unfolding setting_text
-returns c = let judged = c.put_judged-judged.ensures in 
+returns c = let judged = c.put_judged-judged.ensures in
     let opening = c.put_text-to.ensures in
     let closing = judged.puts then c.put_byte.ensures in
     record {

@@ -1,7 +1,6 @@
 use borrow.Author.Tests.{eq-eqb, ne_eqb, le-leb, lt-leb}
 use Rattle.words.specs.LineWords.{kind_of}
 use Rattle.words.specs.LineWordLaws.{silent_empty, silent_first}
-use borrow.Author.Rules.{rules}
 use Rattle.words.proofs.kind_of.Goals as goal
 
 pub returns-then-line-start : goal.returns-then-line-start
@@ -15,17 +14,17 @@ returns-then-line-start-eq35 c = rw (silent_first c.args.line.now c.word_start-s
 pub returns-then-line-le4096 : goal.returns-then-line-le4096
 unfolding kind_of
 returns-then-line-le4096 c = rw (
-      silent_first c.args.line.now c.word_start-start.result c.word_start-start.ensures c.if-line-start.false,
-      ne_eqb _ _
-          c.if-line-start-eq35.false,
-      le-leb _ _ c.if-line-le4096.true,
-    )
+  silent_first c.args.line.now c.word_start-start.result c.word_start-start.ensures c.if-line-start.false,
+  ne_eqb _ _
+      c.if-line-start-eq35.false,
+  le-leb _ _ c.if-line-le4096.true,
+)
 
 pub returns : goal.returns
 unfolding kind_of
 returns c = rw (
-      silent_first c.args.line.now c.word_start-start.result c.word_start-start.ensures c.if-line-start.false,
-      ne_eqb _ _
-          c.if-line-start-eq35.false,
-      lt-leb _ _ c.if-line-le4096.false,
-    )
+  silent_first c.args.line.now c.word_start-start.result c.word_start-start.ensures c.if-line-start.false,
+  ne_eqb _ _
+      c.if-line-start-eq35.false,
+  lt-leb _ _ c.if-line-le4096.false,
+)

@@ -1,6 +1,5 @@
 use borrow.Author.Tests.{le-leb, lt-leb}
 use Rattle.words.specs.LineWords.{lower}
-use borrow.Author.Rules.{rules}
 use Rattle.words.proofs.lower_of.Goals as goal
 
 pub returns-then-byte-lt65 : goal.returns-then-byte-lt65

@@ -1,10 +1,6 @@
-use Prim.Native.Nat.{◌+◌, ◌-◌}
-use mathlib.Core.Path.{◌≡◌, refl, sym, ◌∙◌}
+use mathlib.Core.Path.{refl, sym, ◌∙◌}
 use native.Mathlib.Omega.{arith}
-use lib.ListN.{length, drop}
-use Rattle.words.specs.LineWords.{word_length}
 use Rattle.words.specs.LineWordLaws.{word_stops, word_goes_on, word_out}
-use borrow.Author.Rules.{rules}
 use Rattle.words.proofs.word_end.Goals as goal
 
 pub loop-i-init : goal.loop-i-init

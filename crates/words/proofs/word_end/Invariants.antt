@@ -1,10 +1,7 @@
 use Prim.Native.Nat.{◌+◌, ◌-◌}
-use mathlib.Core.Path.{◌≡◌, refl, sym, ◌∙◌}
-use native.Mathlib.Omega.{arith}
+use mathlib.Core.Path.{◌≡◌}
 use lib.ListN.{length, drop}
 use Rattle.words.specs.LineWords.{word_length}
-use Rattle.words.specs.LineWordLaws.{word_stops, word_goes_on, word_out}
-use borrow.Author.Rules.{rules}
 use Rattle.words.proofs.word_end.Given as goal
 
 abbrev pub invariant-loop-i : goal.invariant-loop-i

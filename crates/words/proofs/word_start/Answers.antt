@@ -1,11 +1,6 @@
-use Prim.Native.Nat.{◌+◌, ◌-◌}
-use mathlib.Core.Path.{◌≡◌, refl, sym, ◌∙◌}
+use mathlib.Core.Path.{refl, sym, ◌∙◌}
 use native.Mathlib.Omega.{arith}
-use lib.ListN.{length, drop}
-use borrow.Author.Tests.{not-true, not-false}
-use Rattle.words.specs.LineWords.{gap_length}
 use Rattle.words.specs.LineWordLaws.{gap_stops, gap_goes_on, gap_out}
-use borrow.Author.Rules.{rules}
 use Rattle.words.proofs.word_start.Goals as goal
 
 pub loop-i-init : goal.loop-i-init

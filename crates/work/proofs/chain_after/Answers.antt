@@ -1,4 +1,3 @@
-use borrow.Author.Rules.{rules}
 use Rattle.work.proofs.chain_after.Goals as goal
 
 pub returns-in-Complete : goal.returns-in-Complete

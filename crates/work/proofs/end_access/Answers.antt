@@ -1,4 +1,3 @@
-use borrow.Author.Rules.{rules}
 use Rattle.work.proofs.end_access.Goals as goal
 
 pub returns-in-Byte : goal.returns-in-Byte

@@ -1,5 +1,4 @@
 use borrow.Author.Tests.{eq-eqb, ne_eqb}
-use borrow.Author.Rules.{rules}
 use Rattle.work.proofs.end_value.Goals as goal
 
 pub returns-then-result_count-eq1 : goal.returns-then-result_count-eq1

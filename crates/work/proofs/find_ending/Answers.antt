@@ -1,7 +1,6 @@
 use mathlib.Core.Path.{◌∙◌}
 use Rattle.command.specs.declared.Source.TheVariants.{Control}
 use Rattle.work.specs.WorkLaws.{register_ending}
-use borrow.Author.Rules.{rules}
 use Rattle.work.proofs.find_ending.Goals as goal
 
 pub returns-in-Unknown : goal.returns-in-Unknown

@@ -1,4 +1,3 @@
-use borrow.Author.Rules.{rules}
 use Rattle.work.proofs.first_reply.Goals as goal
 
 pub returns-in-TwoWords : goal.returns-in-TwoWords

@@ -1,5 +1,4 @@
 use native.Mathlib.Omega.{arith}
-use borrow.Author.Rules.{rules}
 use Rattle.yarkovesh.proofs.mending_number.Goals as goal
 
 pub returns-in-Refused : goal.returns-in-Refused

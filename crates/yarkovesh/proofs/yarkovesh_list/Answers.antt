@@ -1,6 +1,5 @@
 use mathlib.Core.Path.{ap, ◌∙◌}
 use Rattle.yarkovesh.specs.Exported.{listing_number}
-use borrow.Author.Rules.{rules}
 use Rattle.yarkovesh.proofs.yarkovesh_list.Goals as goal
 
 pub returns : goal.returns

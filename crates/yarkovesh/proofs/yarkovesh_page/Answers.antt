@@ -1,5 +1,4 @@
 use Rattle.yarkovesh.specs.ExportedPageLaws.{refused_keeps_numbers, read_gives_numbers}
-use borrow.Author.Rules.{rules}
 use Rattle.yarkovesh.proofs.yarkovesh_page.Goals as goal
 
 pub returns-in-Refused : goal.returns-in-Refused

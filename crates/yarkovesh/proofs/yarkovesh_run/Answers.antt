@@ -1,5 +1,4 @@
 use Rattle.yarkovesh.specs.ExportedLaws.{run_is_fresh, refused_is_fresh}
-use borrow.Author.Rules.{rules}
 use Rattle.yarkovesh.proofs.yarkovesh_run.Goals as goal
 
 pub returns-in-Accepted : goal.returns-in-Accepted

@@ -1,5 +1,4 @@
 use mathlib.Core.Path.{sym, ◌∙◌}
-use borrow.Author.Rules.{rules}
 use Rattle.yarkovesh.proofs.yarkovesh_unmend.Goals as goal
 
 pub returns-then-unmend_trace : goal.returns-then-unmend_trace

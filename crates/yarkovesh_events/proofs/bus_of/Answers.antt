@@ -1,5 +1,4 @@
 use borrow.Author.Tests.{le-leb, lt-leb}
-use borrow.Author.Rules.{rules}
 use Rattle.yarkovesh_events.proofs.bus_of.Goals as goal
 
 pub returns-then-attribute-le255 : goal.returns-then-attribute-le255

@@ -2,7 +2,6 @@ use Rattle.halting.specs.declared.Mark.TheVariants.{Absent}
 use mathlib.Core.Path.{ap}
 use lib.ListN.{get_or}
 use Rattle.groups.specs.declared.Bus.{Bus}
-use borrow.Author.Rules.{rules}
 use Rattle.yarkovesh_events.proofs.read_event.Goals as goal
 
 pub returns : goal.returns

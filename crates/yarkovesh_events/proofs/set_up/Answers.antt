@@ -1,5 +1,4 @@
 use Rattle.yarkovesh_events.specs.ExportedEvents.{set_up}
-use borrow.Author.Rules.{rules}
 use Rattle.yarkovesh_events.proofs.set_up.Goals as goal
 
 pub returns : goal.returns

@@ -1,9 +1,7 @@
 use native.Mathlib.Omega.{arith}
-use Prim.Native.Nat.{◌-◌, ◌*◌}
-use mathlib.Core.Path.{◌≡◌, refl, sym, ◌∙◌}
-use lib.ListN.{length, drop, length-set}
-use lib.Seq.{sets}
-use Rattle.yarkovesh_events.specs.ExportedEvents.{events_of, answers_to}
+use Prim.Native.Nat.{◌-◌}
+use mathlib.Core.Path.{refl, sym, ◌∙◌}
+use lib.ListN.{length-set}
 use Rattle.yarkovesh_events.specs.ExportedEventsLaws.{level_at_most_2, events_counted, answers_on, answers_out}
 use Rattle.yarkovesh_events.proofs.take_events.Goals as goal
 

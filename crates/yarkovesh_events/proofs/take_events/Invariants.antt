@@ -1,15 +1,13 @@
 -- The loop's invariant: the answers from event i on, put at i, make of the buffer what all of them make of it as given.
-use native.Mathlib.Omega.{arith}
 use Prim.Native.Nat.{◌-◌, ◌*◌}
-use mathlib.Core.Path.{◌≡◌, refl, sym, ◌∙◌}
-use lib.ListN.{length, drop, length-set}
+use mathlib.Core.Path.{◌≡◌}
+use lib.ListN.{length, drop}
 use lib.Seq.{sets}
 use Rattle.yarkovesh_events.specs.ExportedEvents.{events_of, answers_to}
-use Rattle.yarkovesh_events.specs.ExportedEventsLaws.{level_at_most_2, events_counted, answers_on, answers_out}
 use Rattle.yarkovesh_events.proofs.take_events.Given as goal
 
 abbrev pub invariant-loop-i : goal.invariant-loop-i
-invariant-loop-i l =     (length l.answers ≡ length l.initial.answers)
+invariant-loop-i l = (length l.answers ≡ length l.initial.answers)
     × (sets l.answers l.i (answers_to (events_of (drop (l.i * 4) l.words)) l.b l.place) ≡ sets l.initial.answers 0 (answers_to (events_of l.words) l.initial.b l.place))
 
 abbrev pub decreases-loop-i : goal.decreases-loop-i

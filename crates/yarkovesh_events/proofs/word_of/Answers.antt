@@ -1,6 +1,5 @@
 use native.Mathlib.Omega.{arith}
 use Rattle.yarkovesh_events.specs.ExportedEventsLaws.{number_at_most_14, value_if_at_most, captured_at_most_1}
-use borrow.Author.Rules.{rules}
 use Rattle.yarkovesh_events.proofs.word_of.Goals as goal
 
 pub overflow_mul-result : goal.overflow_mul-result

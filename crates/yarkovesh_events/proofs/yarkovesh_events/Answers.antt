@@ -1,5 +1,4 @@
 use Rattle.yarkovesh_events.specs.ExportedEventsLaws.{events_counted, taken_meets, short_meets}
-use borrow.Author.Rules.{rules}
 use Rattle.yarkovesh_events.proofs.yarkovesh_events.Goals as goal
 
 pub returns-then-answers-events : goal.returns-then-answers-events

@@ -1,6 +1,5 @@
 use borrow.Author.Tests.{le-leb, lt-leb, eq-eqb, ne_eqb}
 use Rattle.asked.specs.Marker.{mark_holds}
-use borrow.Author.Rules.{rules}
 use Rattle.asked.proofs.marker.is_due.Goals as goal
 
 pub returns-then-i-le-REST_NOPS : goal.returns-then-i-le-REST_NOPS

@@ -1,6 +1,5 @@
 use borrow.Author.Tests.{eq-eqb, ne_eqb}
 use Rattle.asked.specs.Marker.{mark_word}
-use borrow.Author.Rules.{rules}
 use Rattle.asked.proofs.marker.word_of.Goals as goal
 
 pub returns-then-i : goal.returns-then-i

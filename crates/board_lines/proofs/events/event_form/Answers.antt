@@ -1,4 +1,3 @@
-use borrow.Author.Rules.{rules}
 use Rattle.board_lines.proofs.events.event_form.Goals as goal
 
 pub returns-in-One : goal.returns-in-One

@@ -1,5 +1,4 @@
 use Rattle.board_lines.specs.EventLines.{halt_form}
-use borrow.Author.Rules.{rules}
 use Rattle.board_lines.proofs.events.halt_form.Goals as goal
 
 pub returns-then-is_same : goal.returns-then-is_same

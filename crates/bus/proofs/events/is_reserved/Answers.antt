@@ -1,4 +1,3 @@
-use borrow.Author.Rules.{rules}
 use Rattle.bus.proofs.events.is_reserved.Goals as goal
 
 pub returns-in-Carries : goal.returns-in-Carries

@@ -1,6 +1,5 @@
 use Rattle.bus.specs.Events.{event_verdict}
-use borrow.Author.Tests.{eq-eqb, ne_eqb, not-true, not-false}
-use borrow.Author.Rules.{rules}
+use borrow.Author.Tests.{eq-eqb, ne_eqb}
 use Rattle.bus.proofs.events.judge_event.Goals as goal
 
 pub returns-then-not-is_in_range : goal.returns-then-not-is_in_range
@@ -18,23 +17,23 @@ returns-then-event-ne0 c = rw (← c.is_in_range.ensures, c.if-not-is_in_range.f
 pub returns-then-is_reserved : goal.returns-then-is_reserved
 unfolding event_verdict
 returns-then-is_reserved c = rw (
-      ← c.is_in_range.ensures,
-      c.if-not-is_in_range.false,
-      c.if-board.false,
-      eq-eqb _ _
-          c.if-event-ne0.false,
-      ← c.is_reserved.ensures,
-      c.if-is_reserved.true,
-    )
+  ← c.is_in_range.ensures,
+  c.if-not-is_in_range.false,
+  c.if-board.false,
+  eq-eqb _ _
+      c.if-event-ne0.false,
+  ← c.is_reserved.ensures,
+  c.if-is_reserved.true,
+)
 
 pub returns : goal.returns
 unfolding event_verdict
 returns c = rw (
-      ← c.is_in_range.ensures,
-      c.if-not-is_in_range.false,
-      c.if-board.false,
-      eq-eqb _ _
-          c.if-event-ne0.false,
-      ← c.is_reserved.ensures,
-      c.if-is_reserved.false,
-    )
+  ← c.is_in_range.ensures,
+  c.if-not-is_in_range.false,
+  c.if-board.false,
+  eq-eqb _ _
+      c.if-event-ne0.false,
+  ← c.is_reserved.ensures,
+  c.if-is_reserved.false,
+)

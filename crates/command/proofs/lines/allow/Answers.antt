@@ -1,4 +1,3 @@
-use borrow.Author.Rules.{rules}
 use Rattle.command.proofs.lines.allow.Goals as goal
 
 pub returns-then-takes : goal.returns-then-takes

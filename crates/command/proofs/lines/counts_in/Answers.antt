@@ -1,4 +1,3 @@
-use borrow.Author.Rules.{rules}
 use Rattle.command.proofs.lines.counts_in.Goals as goal
 
 pub returns : goal.returns

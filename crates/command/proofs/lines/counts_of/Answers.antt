@@ -1,7 +1,6 @@
 use mathlib.Core.Path.{refl, ◌∙◌}
 use Rattle.command.specs.Command.{read, write, dump, fill}
 use Rattle.command.proofs.TableLaws.{counts_in_each}
-use borrow.Author.Rules.{rules}
 use Rattle.command.proofs.lines.counts_of.Goals as goal
 
 pub returns-in-Unknown : goal.returns-in-Unknown

@@ -1,5 +1,4 @@
 use borrow.Author.Tests.{eq-eqb, ne_eqb}
-use borrow.Author.Rules.{rules}
 use Rattle.command.proofs.lines.takes.Goals as goal
 
 pub returns-then-lower-ne0 : goal.returns-then-lower-ne0

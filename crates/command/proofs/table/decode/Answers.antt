@@ -5,7 +5,6 @@ use borrow.Author.Tests.{ne_eqb}
 use Rattle.command.specs.Command as commands
 use Rattle.command.specs.TableMirror.{size_in, debug_at, nop_or_sync}
 use Rattle.command.proofs.TableLaws.{under, entry, fill}
-use borrow.Author.Rules.{rules}
 use Rattle.command.proofs.table.decode.Goals as goal
 
 pub returns-in-8448 : goal.returns-in-8448

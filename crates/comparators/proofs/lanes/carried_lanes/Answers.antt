@@ -1,6 +1,5 @@
 use borrow.Author.Tests.{ne_eqb}
 use Rattle.comparators.specs.Lanes.{carried_lanes}
-use borrow.Author.Rules.{rules}
 use Rattle.comparators.proofs.lanes.carried_lanes.Goals as goal
 
 pub returns-in-0 : goal.returns-in-0

@@ -1,5 +1,4 @@
 use Rattle.comparators.specs.Lanes.{carries_all}
-use borrow.Author.Rules.{rules}
 use Rattle.comparators.proofs.lanes.carries_all.Goals as goal
 
 pub returns : goal.returns

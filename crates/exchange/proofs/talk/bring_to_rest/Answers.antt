@@ -1,11 +1,7 @@
 use Prim.Native.Nat.{◌-◌}
-use mathlib.Core.Path.{◌≡◌, refl, sym, ◌∙◌}
+use mathlib.Core.Path.{refl, sym, ◌∙◌}
 use native.Mathlib.Omega.{arith}
-use borrow.Author.Rules.{rules}
-use lib.ListN.{length}
-use Rattle.board.specs.State.{state_of}
-use Rattle.round_trip.specs.BroughtToRest.{rest_budget}
-use Rattle.round_trip.proofs.UnderwayLaws.{RestUnderway, rest_begins, rest_goes_on, rest_is_reached}
+use Rattle.round_trip.proofs.UnderwayLaws.{rest_begins, rest_goes_on, rest_is_reached}
 use Rattle.exchange.proofs.talk.bring_to_rest.Goals as goal
 
 pub loop-memory-init : goal.loop-memory-init

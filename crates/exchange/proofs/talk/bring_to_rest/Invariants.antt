@@ -1,11 +1,9 @@
 use Prim.Native.Nat.{◌-◌}
-use mathlib.Core.Path.{◌≡◌, refl, sym, ◌∙◌}
-use native.Mathlib.Omega.{arith}
-use borrow.Author.Rules.{rules}
+use mathlib.Core.Path.{◌≡◌}
 use lib.ListN.{length}
 use Rattle.board.specs.State.{state_of}
 use Rattle.round_trip.specs.BroughtToRest.{rest_budget}
-use Rattle.round_trip.proofs.UnderwayLaws.{RestUnderway, rest_begins, rest_goes_on, rest_is_reached}
+use Rattle.round_trip.proofs.UnderwayLaws.{RestUnderway}
 use Rattle.exchange.proofs.talk.bring_to_rest.Given as goal
 
 abbrev pub invariant-loop-memory : goal.invariant-loop-memory

@@ -6,7 +6,6 @@ use Rattle.building.specs.RequestWords.{command_word}
 use Rattle.round_trip.specs.TalkMirror.{exchanged, from_command}
 use Rattle.round_trip.proofs.UnderwayLaws.{sent_clear, exchange_closes}
 use Rattle.exchange.specs.SendingLaws.{built_then_nops}
-use borrow.Author.Rules.{rules}
 use Rattle.exchange.proofs.talk.converse.Goals as goal
 
 pub send-sent-requires : goal.send-sent-requires

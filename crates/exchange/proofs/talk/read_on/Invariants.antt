@@ -1,12 +1,9 @@
 use Prim.Native.Nat.{◌+◌, ◌-◌}
-use mathlib.Core.Path.{◌≡◌, refl, sym, ap, ◌∙◌}
-use native.Mathlib.Omega.{arith}
-use borrow.Author.Rules.{rules}
+use mathlib.Core.Path.{◌≡◌}
 use lib.ListN.{length}
 use Rattle.board.specs.State.{state_of}
-use Rattle.step.specs.Step.{stepped}
 use Rattle.round_trip.specs.TalkMirror.{talk_budget}
-use Rattle.round_trip.proofs.UnderwayLaws.{TalkUnderway, talk_begins, talk_goes_on, talk_is_closed, sent_clear}
+use Rattle.round_trip.proofs.UnderwayLaws.{TalkUnderway}
 use Rattle.exchange.proofs.talk.read_on.Given as goal
 
 abbrev pub invariant-loop-request : goal.invariant-loop-request

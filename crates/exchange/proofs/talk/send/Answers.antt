@@ -1,6 +1,5 @@
 use Rattle.grounds.specs.GroundLaws.{number_is_not_zero}
 use Rattle.exchange.specs.SendingLaws.{sound_is_sent}
-use borrow.Author.Rules.{rules}
 use Rattle.exchange.proofs.talk.send.Goals as goal
 
 pub returns-in-Reply : goal.returns-in-Reply

@@ -1,6 +1,5 @@
 use mathlib.Core.Path.{sym}
 use lib.ListN.{get_or-eq_default}
-use borrow.Author.Rules.{rules}
 use Rattle.exchange.proofs.talk.word_at.Goals as goal
 
 pub returns : goal.returns

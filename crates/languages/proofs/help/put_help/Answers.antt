@@ -1,6 +1,5 @@
 use Rattle.text.specs.TextLaws.{◌then◌}
 use Rattle.languages.specs.HelpText.{help_text}
-use borrow.Author.Rules.{rules}
 use Rattle.languages.proofs.help.put_help.Goals as goal
 
 pub returns : goal.returns

@@ -1,5 +1,4 @@
 use Rattle.text.specs.TextLaws.{◌then◌}
-use borrow.Author.Rules.{rules}
 use Rattle.languages.proofs.help.put_own.Goals as goal
 
 pub returns-in-StandIn : goal.returns-in-StandIn

@@ -1,6 +1,5 @@
 use Rattle.text.specs.TextLaws.{◌then◌}
 use Rattle.page_text.specs.PageTextLaws.{two_halves}
-use borrow.Author.Rules.{rules}
 use Rattle.page_text.proofs.lines.put_bits.Goals as goal
 
 pub returns : goal.returns

@@ -1,6 +1,5 @@
 use Rattle.text.specs.TextLaws.{◌then◌, nothing}
 use borrow.Author.Tests.{eq-eqb, ne_eqb}
-use borrow.Author.Rules.{rules}
 use Rattle.page_text.proofs.lines.put_code.Goals as goal
 
 pub returns-then-count-eq0 : goal.returns-then-count-eq0

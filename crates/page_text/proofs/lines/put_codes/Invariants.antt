@@ -1,11 +1,8 @@
 use Prim.Native.Nat.{◌≤◌, ◌-◌}
-use mathlib.Core.Path.{◌≡◌, refl}
-use native.Mathlib.Omega.{arith}
+use mathlib.Core.Path.{◌≡◌}
 use lib.ListN.{length}
-use Rattle.text.specs.TextLaws.{Remains, all_remains, rest_remains, none_remains}
+use Rattle.text.specs.TextLaws.{Remains}
 use Rattle.page_text.specs.PageText.{codes_from}
-use Rattle.page_text.specs.PageTextLaws.{codes_on, codes_end}
-use borrow.Author.Rules.{rules}
 use Rattle.page_text.proofs.lines.put_codes.Given as goal
 
 abbrev pub invariant-loop-code : goal.invariant-loop-code

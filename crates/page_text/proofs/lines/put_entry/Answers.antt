@@ -1,6 +1,5 @@
 use Rattle.page_text.specs.PageText.{entry_line}
 use Rattle.text.specs.TextLaws.{◌then◌}
-use borrow.Author.Rules.{rules}
 use Rattle.page_text.proofs.lines.put_entry.Goals as goal
 
 pub returns : goal.returns

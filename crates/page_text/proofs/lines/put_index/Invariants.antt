@@ -1,11 +1,8 @@
 use Prim.Native.Nat.{◌≤◌, ◌-◌}
-use mathlib.Core.Path.{◌≡◌, refl}
-use native.Mathlib.Omega.{arith}
-use lib.ListN.{length, drop, drop_of_length-le}
-use Rattle.text.specs.TextLaws.{Remains, all_remains, rest_remains, none_remains}
+use mathlib.Core.Path.{◌≡◌}
+use lib.ListN.{length, drop}
+use Rattle.text.specs.TextLaws.{Remains}
 use Rattle.page_text.specs.PageText.{index_from}
-use Rattle.page_text.specs.PageTextLaws.{index_on}
-use borrow.Author.Rules.{rules}
 use Rattle.page_text.proofs.lines.put_index.Given as goal
 
 abbrev pub invariant-loop-k : goal.invariant-loop-k

@@ -1,5 +1,4 @@
 use Rattle.text.specs.TextLaws.{◌then◌}
-use borrow.Author.Rules.{rules}
 use Rattle.page_text.proofs.lines.put_named.Goals as goal
 
 pub returns : goal.returns

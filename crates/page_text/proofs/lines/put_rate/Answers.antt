@@ -1,7 +1,6 @@
 use Rattle.text.specs.TextLaws.{◌then◌}
 use mathlib.Core.Path.{ap, ◌∙◌}
 use Rattle.rate.specs.Rate.{rate_bits}
-use borrow.Author.Rules.{rules}
 use Rattle.page_text.proofs.lines.put_rate.Goals as goal
 
 pub returns-in-NothingStarted : goal.returns-in-NothingStarted

@@ -1,5 +1,4 @@
 use borrow.Author.Tests.{eq-eqb, ne_eqb}
-use borrow.Author.Rules.{rules}
 use Rattle.page_text.proofs.lines.put_run.Goals as goal
 
 pub returns-then-carried-eq0 : goal.returns-then-carried-eq0

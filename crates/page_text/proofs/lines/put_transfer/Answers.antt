@@ -1,6 +1,5 @@
 use Rattle.text.specs.TextLaws.{◌then◌}
 use borrow.Author.Tests.{eq-eqb, ne_eqb}
-use borrow.Author.Rules.{rules}
 use Rattle.page_text.proofs.lines.put_transfer.Goals as goal
 
 pub returns-then-carried-eq0 : goal.returns-then-carried-eq0

@@ -1,14 +1,11 @@
-use mathlib.Core.Path.{◌≡◌, refl, sym, ◌∙◌}
+use mathlib.Core.Path.{sym, ◌∙◌}
 use native.Mathlib.Omega.{arith}
-use Prim.Native.Nat.{◌-◌, ◌≤◌}
-use lib.ListN.{length, take, drop}
+use Prim.Native.Nat.{◌-◌}
+use lib.ListN.{take, drop}
 use Rattle.words.specs.LineWords.{words_from}
 use Rattle.words.specs.LineWordLaws.{no_word, word_bounds, next_word}
 use native.Mathlib.Nat.{add-zero}
-use borrow.Author.Tests.{not-true, not-false}
-use Rattle.pod_lines.specs.Taking.{counted}
-use Rattle.pod_lines.specs.TakingLaws.{counted_from, count_begins, count_goes_on, count_stops}
-use borrow.Author.Rules.{rules}
+use Rattle.pod_lines.specs.TakingLaws.{count_begins, count_goes_on, count_stops}
 use Rattle.pod_lines.proofs.taking.count_numbers.Goals as goal
 
 pub loop-from-init : goal.loop-from-init
@@ -32,17 +29,17 @@ returns-then-not-is_number c = let line = c.args.line.now in
 
 pub overflow_add-count : goal.overflow_add-count
 overflow_add-count c = omega (
-      arith,
-      word_bounds c.args.line.now c.loop-from.at c.word_start-start.result
-          c.word_start-start.ensures c.word_end-stop.result c.if-line-start.false c.word_end-stop.ensures,
-    )
+  arith,
+  word_bounds c.args.line.now c.loop-from.at c.word_start-start.result
+      c.word_start-start.ensures c.word_end-stop.result c.if-line-start.false c.word_end-stop.ensures,
+)
 
 pub loop-from-smaller : goal.loop-from-smaller
 loop-from-smaller c = omega (
-      arith,
-      word_bounds c.args.line.now c.loop-from.at c.word_start-start.result
-          c.word_start-start.ensures c.word_end-stop.result c.if-line-start.false c.word_end-stop.ensures,
-    )
+  arith,
+  word_bounds c.args.line.now c.loop-from.at c.word_start-start.result
+      c.word_start-start.ensures c.word_end-stop.result c.if-line-start.false c.word_end-stop.ensures,
+)
 
 pub loop-from-preserved : goal.loop-from-preserved
 loop-from-preserved c = let line = c.args.line.now in

@@ -1,14 +1,9 @@
-use mathlib.Core.Path.{◌≡◌, refl, sym, ◌∙◌}
-use native.Mathlib.Omega.{arith}
+use mathlib.Core.Path.{◌≡◌}
 use Prim.Native.Nat.{◌-◌, ◌≤◌}
-use lib.ListN.{length, take, drop}
+use lib.ListN.{length}
 use Rattle.words.specs.LineWords.{words_from}
-use Rattle.words.specs.LineWordLaws.{no_word, word_bounds, next_word}
-use native.Mathlib.Nat.{add-zero}
-use borrow.Author.Tests.{not-true, not-false}
 use Rattle.pod_lines.specs.Taking.{counted}
-use Rattle.pod_lines.specs.TakingLaws.{counted_from, count_begins, count_goes_on, count_stops}
-use borrow.Author.Rules.{rules}
+use Rattle.pod_lines.specs.TakingLaws.{counted_from}
 use Rattle.pod_lines.proofs.taking.count_numbers.Given as goal
 
 abbrev pub invariant-loop-from : goal.invariant-loop-from

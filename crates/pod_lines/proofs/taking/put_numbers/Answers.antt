@@ -1,15 +1,12 @@
-use mathlib.Core.Path.{◌≡◌, refl, sym, ◌∙◌}
+use mathlib.Core.Path.{refl, sym, ◌∙◌}
 use native.Mathlib.Omega.{arith}
-use Prim.Native.Nat.{◌+◌, ◌-◌, ◌≤◌}
-use lib.ListN.{length, take, drop}
+use Prim.Native.Nat.{◌-◌}
+use lib.ListN.{take, drop}
 use Rattle.words.specs.LineWords.{words_from}
 use Rattle.words.specs.LineWordLaws.{no_word, word_bounds, next_word}
 use mathlib.Core.Bool.{true}
 use lib.ListN.{length-set}
-use lib.Seq.{sets}
-use Rattle.pod_lines.specs.Taking.{all_numerals, values}
 use Rattle.pod_lines.specs.TakingLaws.{put_goes_on, first_numeral}
-use borrow.Author.Rules.{rules}
 use Rattle.pod_lines.proofs.taking.put_numbers.Goals as goal
 
 pub loop-from-init : goal.loop-from-init
@@ -36,34 +33,34 @@ value_of-requires c = let line = c.args.line.now in
 
 pub offset_bounds-buffer-count : goal.offset_bounds-buffer-count
 offset_bounds-buffer-count c = omega (
-      arith,
-      rw (next_word c.args.line.now c.loop-from.at c.word_start-start.result c.word_start-start.ensures
-          c.word_end-stop.result c.if-line-start.false c.word_end-stop.ensures) at c.loop-from.invariant.2,
-      c.loop-from.invariant.0,
-    )
+  arith,
+  rw (next_word c.args.line.now c.loop-from.at c.word_start-start.result c.word_start-start.ensures
+      c.word_end-stop.result c.if-line-start.false c.word_end-stop.ensures) at c.loop-from.invariant.2,
+  c.loop-from.invariant.0,
+)
 
 pub bounds-buffer-count : goal.bounds-buffer-count
 bounds-buffer-count c = omega (
-      arith,
-      rw (next_word c.args.line.now c.loop-from.at c.word_start-start.result c.word_start-start.ensures
-          c.word_end-stop.result c.if-line-start.false c.word_end-stop.ensures) at c.loop-from.invariant.2,
-      c.loop-from.invariant.0,
-    )
+  arith,
+  rw (next_word c.args.line.now c.loop-from.at c.word_start-start.result c.word_start-start.ensures
+      c.word_end-stop.result c.if-line-start.false c.word_end-stop.ensures) at c.loop-from.invariant.2,
+  c.loop-from.invariant.0,
+)
 
 pub overflow_add-count : goal.overflow_add-count
 overflow_add-count c = omega (
-      arith,
-      rw (next_word c.args.line.now c.loop-from.at c.word_start-start.result c.word_start-start.ensures
-          c.word_end-stop.result c.if-line-start.false c.word_end-stop.ensures) at c.loop-from.invariant.2,
-      c.loop-from.invariant.0,
-    )
+  arith,
+  rw (next_word c.args.line.now c.loop-from.at c.word_start-start.result c.word_start-start.ensures
+      c.word_end-stop.result c.if-line-start.false c.word_end-stop.ensures) at c.loop-from.invariant.2,
+  c.loop-from.invariant.0,
+)
 
 pub loop-from-smaller : goal.loop-from-smaller
 loop-from-smaller c = omega (
-      arith,
-      word_bounds c.args.line.now c.loop-from.at c.word_start-start.result c.word_start-start.ensures
-          c.word_end-stop.result c.if-line-start.false c.word_end-stop.ensures,
-    )
+  arith,
+  word_bounds c.args.line.now c.loop-from.at c.word_start-start.result c.word_start-start.ensures
+      c.word_end-stop.result c.if-line-start.false c.word_end-stop.ensures,
+)
 
 pub loop-from-preserved : goal.loop-from-preserved
 loop-from-preserved c = let line = c.args.line.now in

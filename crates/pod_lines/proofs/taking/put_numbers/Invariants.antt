@@ -1,19 +1,14 @@
-use mathlib.Core.Path.{◌≡◌, refl, sym, ◌∙◌}
-use native.Mathlib.Omega.{arith}
+use mathlib.Core.Path.{◌≡◌}
 use Prim.Native.Nat.{◌+◌, ◌-◌, ◌≤◌}
-use lib.ListN.{length, take, drop}
+use lib.ListN.{length}
 use Rattle.words.specs.LineWords.{words_from}
-use Rattle.words.specs.LineWordLaws.{no_word, word_bounds, next_word}
 use mathlib.Core.Bool.{true}
-use lib.ListN.{length-set}
 use lib.Seq.{sets}
 use Rattle.pod_lines.specs.Taking.{all_numerals, values}
-use Rattle.pod_lines.specs.TakingLaws.{put_goes_on, first_numeral}
-use borrow.Author.Rules.{rules}
 use Rattle.pod_lines.proofs.taking.put_numbers.Given as goal
 
 abbrev pub invariant-loop-from : goal.invariant-loop-from
-invariant-loop-from l =     (length l.buffer ≡ length l.initial.buffer)
+invariant-loop-from l = (length l.buffer ≡ length l.initial.buffer)
     × (all_numerals (words_from l.line l.at) ≡ true)
     × (l.count + length (words_from l.line l.at) ≤ length l.buffer)
     × (sets l.initial.buffer 0 (values (words_from l.line l.from)) ≡ sets l.buffer l.count (values (words_from l.line l.at)))

@@ -3,7 +3,6 @@ use mathlib.Core.Path.{sym, ◌∙◌}
 use native.Mathlib.Omega.{arith}
 use Rattle.words.specs.LineWords.{words_from}
 use Rattle.pod_lines.specs.TakingLaws.{count_tells, takes_all, takes_none}
-use borrow.Author.Rules.{rules}
 use Rattle.pod_lines.proofs.taking.take_numbers.Goals as goal
 
 pub put_numbers-requires : goal.put_numbers-requires

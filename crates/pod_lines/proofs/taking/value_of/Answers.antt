@@ -1,6 +1,5 @@
 use mathlib.Core.Path.{sym, ◌∙◌}
 use Rattle.numbers.specs.NumberLaws.{numeral_value, numeral_none}
-use borrow.Author.Rules.{rules}
 use Rattle.pod_lines.proofs.taking.value_of.Goals as goal
 
 pub returns-in-Value : goal.returns-in-Value

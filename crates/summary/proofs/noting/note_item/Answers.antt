@@ -1,5 +1,4 @@
 use mathlib.Core.Path.{refl}
-use borrow.Author.Rules.{rules}
 use Rattle.summary.proofs.noting.note_item.Goals as goal
 
 pub returns : goal.returns

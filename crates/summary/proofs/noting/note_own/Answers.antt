@@ -1,7 +1,6 @@
 use mathlib.Core.Path.{sym, ◌∙◌}
 use Rattle.cycle.specs.CycleItems.{of_cycle}
 use Rattle.summary.specs.NotingLaws.{note_one, note_none}
-use borrow.Author.Rules.{rules}
 use Rattle.summary.proofs.noting.note_own.Goals as goal
 
 pub returns-then-gives_own : goal.returns-then-gives_own

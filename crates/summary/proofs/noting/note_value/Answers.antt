@@ -1,7 +1,6 @@
 use borrow.Author.Tests.{eq-eqb, ne_eqb}
 use Rattle.cycle.specs.CycleItems.{of_value}
 use Rattle.summary.specs.NotingLaws.{note_one, note_none}
-use borrow.Author.Rules.{rules}
 use Rattle.summary.proofs.noting.note_value.Goals as goal
 
 pub returns-then-carried-eq1 : goal.returns-then-carried-eq1

@@ -1,5 +1,4 @@
 use borrow.Author.Tests.{eq-eqb, ne_eqb}
-use borrow.Author.Rules.{rules}
 use Rattle.summary.proofs.noting.put_entry.Goals as goal
 
 pub returns-then-i-eq0 : goal.returns-then-i-eq0

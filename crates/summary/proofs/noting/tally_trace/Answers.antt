@@ -1,10 +1,9 @@
 use borrow.Author.Tests.{eq-eqb, ne_eqb}
 use mathlib.Core.Path.{◌≡◌, refl, ap, sym, ◌∙◌}
-use Prim.Native.Nat.{◌+◌, ◌-◌, ◌≤◌, ◌<◌}
+use Prim.Native.Nat.{◌<◌}
 use mathlib.Core.List.{◌++◌}
 use native.Mathlib.Omega.{arith}
 use lib.ListN.{length}
-use lib.Seq.{sets}
 use Rattle.cycle.specs.Cycle.{pst, carried_into}
 use Rattle.cycle.proofs.CycleLaws.{carried_next}
 use Rattle.cycle.specs.CycleItems.{value_item}
@@ -15,11 +14,10 @@ use Rattle.trace.specs.TraceReading.{counted}
 use Rattle.trace.proofs.TraceReadingLaws.{earliest_reserved, earliest_too_soon, earliest_passes, earliest_ends}
 use Rattle.index.specs.RangeLaws.{marker_at_most}
 use Rattle.summary.specs.NotingLaws.{cycle_noted, items_with_value, room_for_one}
-use Rattle.index.specs.Index.{entry_count, first_entries, index_words}
+use Rattle.index.specs.Index.{first_entries, index_words}
 use Rattle.index.proofs.IndexLaws.{entry_next}
-use Rattle.summary.specs.PassLaws.{Judging, judging_starts, too_long_so}
+use Rattle.summary.specs.PassLaws.{judging_starts, too_long_so}
 use borrow.Author.Rules.{rules}
-use Rattle.summary.specs.TallyMirror.{Tallied}
 use Rattle.summary.proofs.noting.tally_trace.Goals as goal
 
 pub returns-then-trace-gt65536 : goal.returns-then-trace-gt65536

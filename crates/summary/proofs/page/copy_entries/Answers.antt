@@ -1,8 +1,6 @@
 use mathlib.Core.Path.{◌≡◌, refl}
-use Prim.Native.Nat.{◌-◌, ◌≤◌}
 use native.Mathlib.Omega.{arith}
-use lib.ListN.{length}
-use lib.Seq.{paste, paste-zero}
+use lib.Seq.{paste-zero}
 use Rattle.summary.specs.PassLaws.{copied_next}
 use borrow.Author.Rules.{rules}
 use Rattle.summary.proofs.page.copy_entries.Goals as goal

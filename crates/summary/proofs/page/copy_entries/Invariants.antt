@@ -1,10 +1,7 @@
-use mathlib.Core.Path.{◌≡◌, refl}
+use mathlib.Core.Path.{◌≡◌}
 use Prim.Native.Nat.{◌-◌, ◌≤◌}
-use native.Mathlib.Omega.{arith}
 use lib.ListN.{length}
-use lib.Seq.{paste, paste-zero}
-use Rattle.summary.specs.PassLaws.{copied_next}
-use borrow.Author.Rules.{rules}
+use lib.Seq.{paste}
 use Rattle.summary.proofs.page.copy_entries.Given as goal
 
 abbrev pub invariant-loop-k : goal.invariant-loop-k

@@ -1,7 +1,5 @@
-use Prim.Native.Nat.{◌-◌, ◌≤◌}
-use mathlib.Core.Path.{◌≡◌, refl, sym, ◌∙◌}
-use lib.ListN.{length, drop}
-use Rattle.trace_list.specs.Asked.{decimal}
+use Prim.Native.Nat.{◌-◌}
+use mathlib.Core.Path.{refl, sym, ◌∙◌}
 use Rattle.trace_list.specs.AskedLaws.{below_digits, above_digits, too_wide, one_digit_more, no_byte_left}
 use borrow.Author.Rules.{rules}
 use Rattle.trace_list.proofs.asked.read_decimal.Goals as goal

@@ -1,10 +1,8 @@
 -- The loop's invariant: what the bytes from place i on come to, after those before it, is what the word comes to.
 use Prim.Native.Nat.{◌-◌, ◌≤◌}
-use mathlib.Core.Path.{◌≡◌, refl, sym, ◌∙◌}
+use mathlib.Core.Path.{◌≡◌}
 use lib.ListN.{length, drop}
 use Rattle.trace_list.specs.Asked.{decimal}
-use Rattle.trace_list.specs.AskedLaws.{below_digits, above_digits, too_wide, one_digit_more, no_byte_left}
-use borrow.Author.Rules.{rules}
 use Rattle.trace_list.proofs.asked.read_decimal.Given as goal
 
 abbrev pub invariant-loop-i : goal.invariant-loop-i

@@ -2,7 +2,6 @@ use mathlib.Core.Path.{refl, ap, sym, ◌∙◌}
 use borrow.Author.Tests.{eq-eqb, ne_eqb}
 use Rattle.trace_list.specs.Asked.{multiple}
 use Rattle.trace_list.specs.AskedLaws.{some_word, no_word}
-use borrow.Author.Rules.{rules}
 use Rattle.trace_list.proofs.asked.read_from.Goals as goal
 
 pub returns-then-word-eq0 : goal.returns-then-word-eq0

@@ -1,4 +1,3 @@
-use borrow.Author.Rules.{rules}
 use Rattle.trigger.proofs.levels.level_one.Goals as goal
 
 pub returns : goal.returns
