@@ -1,5 +1,5 @@
 // For programs in other languages: a run of packets on a fresh board, the listing of a trace, its page, and a trace mended.
-// `rt staticlib yarkovesh` writes the archive.
+// `rt lib` writes the archive, out/libyarkovesh.a.
 #![tactic(auto)]
 
 ghost use Rattle.std.specs.Prelude.{◌≡◌};

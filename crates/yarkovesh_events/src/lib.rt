@@ -1,4 +1,4 @@
-// For programs in other languages: events on a board as set up (01, "Events and firing"). `rt staticlib yarkovesh_events` writes the archive.
+// For programs in other languages: events on a board as set up (01, "Events and firing"). `rt lib` writes the archive, out/libyarkovesh_events.a.
 #![tactic(auto)]
 
 ghost use Rattle.std.specs.Prelude.{◌≡◌, ◌+◌, ◌<◌, ◌≤◌, cond, length};
