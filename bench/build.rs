@@ -1,4 +1,4 @@
-//! Links the proved libraries, `rt staticlib yarkovesh` and `rt staticlib yarkovesh_events`, from the folder that YARKOVESH_LIB names.
+//! Links the proved libraries, libyarkovesh.a and libyarkovesh_events.a, from the folder that YARKOVESH_LIB names.
 
 fn main() {
     println!("cargo:rerun-if-env-changed=YARKOVESH_LIB");
