@@ -40,14 +40,14 @@ at_setting w s = state_of (with_w s.board w) s.place s.memory
 
 ending_at : (w : ℕ) (c : Command) (b : Board) (address : ℕ) (access : Access) → ending_of c (with_w b w) address access ≡ ending_of c b address access
 unfolding csr_value control_fetched
-ending_at w Unknown b address access = refl
-ending_at w Nop b address access = refl
-ending_at w (Load size base) b address access = refl
-ending_at w (Store size base) b address access = refl
-ending_at w (Show (source.General n)) b address access = refl
-ending_at w (Show source.Control) b address access = refl
-ending_at w (Show source.Csr) b address access = refl
-ending_at w (Change target) b address access = refl
+ending_at w Unknown b address _ = refl
+ending_at w Nop b address _ = refl
+ending_at w (Load size base) b address _ = refl
+ending_at w (Store size base) b address _ = refl
+ending_at w (Show (source.General n)) b address _ = refl
+ending_at w (Show source.Control) b address _ = refl
+ending_at w (Show source.Csr) b address _ = refl
+ending_at w (Change target) b address _ = refl
 
 change_at : (w : ℕ) (c : Command) (b : Board) (address value : ℕ) → board_after c (with_w b w) address value ≡ with_w (board_after c b address value) w
 unfolding debug_written control_written

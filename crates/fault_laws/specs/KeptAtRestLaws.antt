@@ -54,10 +54,10 @@ clears s word h = by s.place.phase refl
 
 -- a bus error leaves the port at rest
 failed_rests : (e : Ending) (access : Access) (f : Fault) → f ≡ NoFault → at_rest (phase_after e) ≡ false → fault_after e access f ≡ NoFault
-failed_rests Complete access f n h = n
-failed_rests Failed access f n h = absurd (true≢false h)
-failed_rests (OneWord v) access f n h = n
-failed_rests (TwoWords v) access f n h = n
+failed_rests Complete _ f n h = n
+failed_rests Failed _ f n h = absurd (true≢false h)
+failed_rests (OneWord v) _ f n h = n
+failed_rests (TwoWords v) _ f n h = n
 
 left_apart : (plan : Plan) (s : State) → s.board.fault ≡ NoFault → Apart (left plan s)
 left_apart (Hold phase) s n h = n

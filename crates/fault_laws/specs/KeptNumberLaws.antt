@@ -119,13 +119,13 @@ NoneMissed s [] = Unit {0}
 NoneMissed s (c ∷ cs) = (missed_by s c ≡ false) × NoneMissed (after_call stand_in s c) cs
 
 there_keeps : (e : Ending) (access : Access) (f : Fault) → misses access ≡ false → fault_after e access f ≡ f
-there_keeps Complete access f h = refl
+there_keeps Complete _ f h = refl
 there_keeps Failed NoAccess f h = refl
 there_keeps Failed (Fetched size v past) f h = refl
 there_keeps Failed (Stored past) f h = refl
 there_keeps Failed (Missing first) f h = absurd (true≢false h)
-there_keeps (OneWord v) access f h = refl
-there_keeps (TwoWords v) access f h = refl
+there_keeps (OneWord v) _ f h = refl
+there_keeps (TwoWords v) _ f h = refl
 
 left_keeps : (plan : Plan) (s : State) → misses_by plan s ≡ false → (left plan s).board.fault ≡ s.board.fault
 left_keeps (Hold phase) s h = refl

@@ -27,7 +27,7 @@ fault_of (Stored past) f = f
 fault_of (Missing first) f = FaultAt first
 
 abbrev pub fault_after : Ending → Access → Fault → Fault
-fault_after Complete access f = f
+fault_after Complete _ f = f
 fault_after Failed access f = fault_of access f
-fault_after (OneWord v) access f = f
-fault_after (TwoWords v) access f = f
+fault_after (OneWord v) _ f = f
+fault_after (TwoWords v) _ f = f

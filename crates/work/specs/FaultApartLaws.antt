@@ -18,14 +18,14 @@ module _ (b : Board) (f : Fault) where
   -- a command ends in the same
   pub same_ending : (c : Command) (address : ℕ) (access : Access) → ending_of c (with_fault b f) address access ≡ ending_of c b address access
   unfolding csr_value control_fetched
-  same_ending Unknown address access = refl
-  same_ending Nop address access = refl
-  same_ending (Load s base) address access = refl
-  same_ending (Store s base) address access = refl
-  same_ending (Show (source.General n)) address access = refl
-  same_ending (Show source.Control) address access = refl
-  same_ending (Show source.Csr) address access = refl
-  same_ending (Change target) address access = refl
+  same_ending Unknown address _ = refl
+  same_ending Nop address _ = refl
+  same_ending (Load s base) address _ = refl
+  same_ending (Store s base) address _ = refl
+  same_ending (Show (source.General n)) address _ = refl
+  same_ending (Show source.Control) address _ = refl
+  same_ending (Show source.Csr) address _ = refl
+  same_ending (Change target) address _ = refl
 
   control_apart : (n v : ℕ) → control_written (with_fault b f) n v ≡ with_fault (control_written b n v) f
   unfolding control_written

@@ -39,12 +39,12 @@ change_ending false = Failed
 
 -- the column "Result words", or a bus error
 abbrev pub ending_of : Command → Board → ℕ → Access → Ending
-ending_of Unknown b address access = Complete
-ending_of Nop b address access = Complete
+ending_of Unknown b address _ = Complete
+ending_of Nop b address _ = Complete
 ending_of (Load s base) b address access = access_ending access
 ending_of (Store s base) b address access = access_ending access
-ending_of (Show source) b address access = shown_ending (shown source b address)
-ending_of (Change target) b address access = change_ending (reached target address)
+ending_of (Show source) b address _ = shown_ending (shown source b address)
+ending_of (Change target) b address _ = change_ending (reached target address)
 
 -- "Of two result words the upper comes first"; "S=0 with data, or 0x0FFFF complete; .. 0x10001 bus error"
 abbrev pub first_reply : Ending → ℕ
