@@ -17,6 +17,9 @@ NAME = r"[^\s(){}.;,@\"«»\[\]\\:]+"
 TOKEN = re.compile(r"\"(?:[^\"\\]|\\[\s\S])*\"|--[^\n]*|//[^\n]*|" + NAME)
 DECLARED = re.compile(r"^( *)(?:(?:abbrev|unfoldable|opaque|pub|ruleset|instance)\s+)*([A-Za-z_][^\s:(){}.,]*)\s*:\s")
 RECORD = re.compile(r"^( *)(?:(?:abbrev|unfoldable|pub)\s+)*(record|data)\s+(\S+)")
+# Laws that would have the name of a definition in another file of their crate.
+APART = {"answers/specs/SaidLaws": ["packet-outcome"], "asking/specs/AskingLaws": ["exchange-outcome"], "index/specs/EntryLaws": ["entry-count", "entry-word"],
+         "promises/specs/RunHistoryLaws": ["reply-at"], "waits_laws/specs/FileSameLaws": ["same-line"]}
 
 
 def read(path):
@@ -73,6 +76,8 @@ def plan(texts):
                         new[lemma] = to + "_lem"
                     elif lemma in set(declared(text)):
                         alone[path][lemma] = to + "_lem"
+    for module, names in APART.items():
+        alone[f"crates/{module}.antt"].update((it, respelled(it) + "_lem") for it in names)
     # A lemma that is renamed in its own file alone is so where that file is imported.
     for path, names in list(alone.items()):
         module = "Rattle." + path[len("crates/"):-len(".antt")].replace("/", ".")

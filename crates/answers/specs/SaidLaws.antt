@@ -22,9 +22,9 @@ left s word = if_accepted (packet_verdict s word) (stepped s word) s
 abbrev due : State → ℕ → Answer
 due s word = record { outcome = answered (packet_verdict s word) (reply_now s.place); board = (left s word).board; place = (left s word).place }
 
-pub packet_outcome : {s : State} {word : ℕ} {r : Answer} {after : List ℕ} → PacketMeets s word r after
+pub packet_outcome_lem : {s : State} {word : ℕ} {r : Answer} {after : List ℕ} → PacketMeets s word r after
     → r.outcome ≡ answered (packet_verdict s word) (reply_now s.place)
-packet_outcome {s} {word} {r} {after} meets =
+packet_outcome_lem {s} {word} {r} {after} meets =
     let other : PacketMeets s word (due s word) (left s word).memory = record { answer = refl; state = refl } in
     ap (λ (a : Answer). a.outcome) (packet_unique meets other).0
 

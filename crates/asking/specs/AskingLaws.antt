@@ -7,6 +7,6 @@ use Rattle.exchange_verdict.specs.ExchangeVerdict.{exchange_verdict}
 use Rattle.exchange.specs.Exchange.{answered_as, ended_there, ExchangeMeets}
 use Rattle.exchange.specs.ExchangeUnique.{told_exchange_unique}
 
-pub exchange_outcome : {request : Request} {s : State} {r : Returned} {after : List ℕ} → ExchangeMeets request s r after
+pub exchange_outcome_lem : {request : Request} {s : State} {r : Returned} {after : List ℕ} → ExchangeMeets request s r after
     → r.answer ≡ answered_as (exchange_verdict request s) (ended_there request s)
-exchange_outcome {request} {s} {r} meets = told_exchange_unique r.answer (answered_as (exchange_verdict request s) (ended_there request s)) meets.answer
+exchange_outcome_lem {request} {s} {r} meets = told_exchange_unique r.answer (answered_as (exchange_verdict request s) (ended_there request s)) meets.answer

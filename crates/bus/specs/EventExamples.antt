@@ -85,18 +85,21 @@ pub record P4 (b : Board) : Type 0 where
 
 -- the event that fires nothing changes nothing
 p4_passes : (w : ℕ) → leb w 15 ≡ true → after (p4_set w) p4_outside ≡ p4_set w
-unfolding fresh_board fresh_place in_range bstat_in_range agree level_of pc_group address_group joined fires fired_level bstat_after responds firing halting status_after
+unfolding fresh_board fresh_place in_range bstat_in_range agree level_of pc_group address_group joined fires fired_level bstat_after responds firing halting
+    status_after
     event_verdict
 p4_passes w allowed = rw allowed
 
 -- the other halts
 p4_fires : (w : ℕ) → leb w 15 ≡ true → after (p4_set w) p4_inside ≡ with_status (p4_set w) (with_bstat (with_trg (with_halted (p4_set w).status true) true) 2)
-unfolding fresh_board fresh_place in_range bstat_in_range agree level_of pc_group address_group joined fires fired_level bstat_after responds firing halting status_after
+unfolding fresh_board fresh_place in_range bstat_in_range agree level_of pc_group address_group joined fires fired_level bstat_after responds firing halting
+    status_after
     event_verdict
 p4_fires w allowed = rw allowed
 
 p4_answers : (w : ℕ) → leb w 15 ≡ true → (answered (p4_set w) p4_outside ≡ fired 0 false) × (answered (p4_set w) p4_inside ≡ fired 1 true)
-unfolding fresh_board fresh_place in_range bstat_in_range agree level_of pc_group address_group joined fires fired_level bstat_after responds firing halting seen
+unfolding fresh_board fresh_place in_range bstat_in_range agree level_of pc_group address_group joined fires fired_level bstat_after responds firing halting
+    seen
     event_verdict
 p4_answers w allowed = (rw allowed, rw allowed)
 
@@ -137,12 +140,14 @@ self n = eq-eqb n n refl
 
 module _ (w pbr ablr lanes : ℕ) (allowed : leb w 15 ≡ true) (even : eqb (pbr % 2) 0 ≡ true) where
   p5_one : after (p5_set 1 w pbr ablr) (p5_event pbr ablr lanes) ≡ p5_set 5 w pbr ablr
-  unfolding fresh_board fresh_place in_range bstat_in_range agree level_of pc_group address_matches attribute_agrees data_enabled address_group joined fires fired_level
+  unfolding fresh_board fresh_place in_range bstat_in_range agree level_of pc_group address_matches attribute_agrees data_enabled address_group joined fires
+      fired_level
       bstat_after responds firing halting status_after event_verdict
   p5_one = rw (allowed, even, self (bit_or pbr 0))
 
   p5_two : (after (p5_set 5 w pbr ablr) (p5_event pbr ablr lanes)).status.bstat ≡ 6
-  unfolding fresh_board fresh_place in_range bstat_in_range agree level_of pc_group address_matches attribute_agrees data_enabled address_group joined fires fired_level
+  unfolding fresh_board fresh_place in_range bstat_in_range agree level_of pc_group address_matches attribute_agrees data_enabled address_group joined fires
+      fired_level
       bstat_after responds firing halting status_after event_verdict
   p5_two = rw (allowed, even, self ablr)
 

@@ -61,7 +61,8 @@ told_event_unique (events.TheVariants.Refused g) (events.TheVariants.Refused h) 
     ap events.TheVariants.Refused (same_refusal_same_ground g h (ap (λ (t : EventTold). t.refusal) e))
 told_event_unique (events.TheVariants.Refused g) (events.TheVariants.Taken t) e = absurd (a_refusal_is_told g (ap (λ (t : EventTold). t.refusal) e))
 told_event_unique (events.TheVariants.Taken s) (events.TheVariants.Refused h) e = absurd (a_refusal_is_told h (sym (ap (λ (t : EventTold). t.refusal) e)))
-told_event_unique (events.TheVariants.Taken s) (events.TheVariants.Taken t) e = ap events.TheVariants.Taken (sym (seen_back_lem s) ∙ ap seen_back e ∙ seen_back_lem t)
+told_event_unique (events.TheVariants.Taken s) (events.TheVariants.Taken t) e =
+    ap events.TheVariants.Taken (sym (seen_back_lem s) ∙ ap seen_back e ∙ seen_back_lem t)
 
 pub told_breakpoint_unique : (o q : breakpoints.BreakpointOutcome) → told_breakpoint o ≡ told_breakpoint q → o ≡ q
 told_breakpoint_unique (breakpoints.TheVariants.Refused g) (breakpoints.TheVariants.Refused h) e =

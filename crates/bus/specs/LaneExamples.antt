@@ -42,7 +42,8 @@ board w address = after_settings (technician address) (fresh_board w)
 -- "a byte read at address 1, which doesn't use that lane": whatever the data, it does not fire
 pub technician_does_not_fire : (w pc lanes : ℕ) → leb w 15 ≡ true → eqb (pc % 2) 0 ≡ true
     → told_event (event_outcome (board w 1) fresh_place (byte_read pc 1 lanes)) ≡ fired 0 false
-unfolding fresh_board fresh_place debug_loaded debug_written in_range bstat_in_range level_of agree pc_group address_matches attribute_agrees data_enabled some_set
+unfolding fresh_board fresh_place debug_loaded debug_written in_range bstat_in_range level_of agree pc_group address_matches attribute_agrees data_enabled
+    some_set
     comparator carries_all carried_lanes byte_lanes address_group joined fires fired_level bstat_after responds firing halting seen event_verdict
 technician_does_not_fire w pc lanes allowed even = rw (allowed, even)
 
@@ -66,6 +67,7 @@ technician_did_fire w pc lanes = rw (read_as_zero lanes)
 pub carried_fires : (w : ℕ) → leb w 15 ≡ true
     → (told_event (event_outcome (board w 3) fresh_place (byte_read 0x1000 3 0x11223300)) ≡ fired 1 true)
     × (told_event (event_outcome (board w 3) fresh_place (byte_read 0x1000 3 0x11223301)) ≡ fired 0 false)
-unfolding fresh_board fresh_place debug_loaded debug_written in_range bstat_in_range level_of agree pc_group address_matches attribute_agrees data_enabled some_set
+unfolding fresh_board fresh_place debug_loaded debug_written in_range bstat_in_range level_of agree pc_group address_matches attribute_agrees data_enabled
+    some_set
     comparator carries_all carried_lanes byte_lanes address_group joined fires fired_level bstat_after responds firing halting seen event_verdict
 carried_fires w allowed = (rw allowed, rw allowed)

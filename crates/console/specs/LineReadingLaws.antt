@@ -1,6 +1,8 @@
 -- Laws of reading lines: what is held of a line goes on with each piece that comes, until one ends it or the input ends.
-use Rattle.std.specs.Prelude.{ℕ, zero, suc, ◌+◌, ◌-◌, ◌≤◌, ◌<◌, min, ◌≡◌, refl, Bool, true, false, cond, ◌&&◌, List, [], ◌∷◌, ◌++◌, eqb, leb, length, take, drop}
-use Rattle.std.proofs.Common.{arith, ap, sym, ◌∙◌, true≢false, append-nil, append_assoc, length-take, length-drop, drop_of_length-le, take_all, drop-drop, eq-eqb, ne_eqb, leb-true, leb-false}
+use Rattle.std.specs.Prelude.{ℕ, zero, suc, ◌+◌, ◌-◌, ◌≤◌, ◌<◌, min, ◌≡◌, refl, Bool, true, false, cond, ◌&&◌, List, [], ◌∷◌, ◌++◌, eqb, leb}
+use Rattle.std.specs.Prelude.{length, take, drop}
+use Rattle.std.proofs.Common.{arith, ap, sym, ◌∙◌, true≢false, append-nil, append_assoc, length-take, length-drop, drop_of_length-le, take_all}
+use Rattle.std.proofs.Common.{drop-drop, eq-eqb, ne_eqb, leb-true, leb-false}
 use Rattle.std.proofs.Math.Seq.{take-nil}
 use Rattle.console.specs.declared.Cut.{Cut}
 use Rattle.console.specs.declared.Input.{Input}

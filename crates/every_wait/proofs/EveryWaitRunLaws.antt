@@ -83,7 +83,8 @@ words_grow w request s =
     )
 
 words_more : (w : ℕ) (request : Request) (requests : List Request) (s : Scene)
-    → length (words_of (request ∷ requests) (at_w w s)) ≡ length (words_there request (at_w w s)) + length (words_of requests (at_w w (meaning request s).leaves))
+    → length (words_of (request ∷ requests) (at_w w s))
+    ≡ length (words_there request (at_w w s)) + length (words_of requests (at_w w (meaning request s).leaves))
 unfolding words_of
 words_more w request requests s =
     length-append (words_there request (at_w w s)) (words_of requests (meaning request (at_w w s)).leaves)

@@ -56,6 +56,7 @@ straight_at_1 = refl
 
 -- exchanged, the same requests come to the same: the READ is brought to its end first
 pub rested_at_1 : results swallowed (fresh_at 1 []) ≡ Result.came Illegal ∷ Result.came BusError ∷ Result.came (Value 0) ∷ []
-unfolding answers exchange_verdict in_range bstat_in_range rested rest_nops state_there packets_there stepped fresh_board fresh_place plan_for begun continued collected
+unfolding answers exchange_verdict in_range bstat_in_range rested rest_nops state_there packets_there stepped fresh_board fresh_place plan_for begun
+    continued collected
     work_after decoded decoded_word fetched
 rested_at_1 = refl

@@ -50,4 +50,5 @@ pub built_then_nops : {request : Request} {r : Built} {after : List ℕ} → Bui
 built_then_nops {request} m h i =
     let room = le-leb (length (built_words request)) 5 (word_count_bound request) in
     ap (λ (l : List ℕ). get_or l i 0) m.buffer
-    ∙ rw (h, room) (padding_adds_zeros (built_words request) (drop (length (built_words request)) (replicate 5 0)) i (zeros_from (length (built_words request)) 5))
+    ∙ rw (h, room) (padding_adds_zeros (built_words request) (drop (length (built_words request)) (replicate 5 0)) i
+    (zeros_from (length (built_words request)) 5))

@@ -74,7 +74,8 @@ unfolding finds handed
 same_handed [] s = refl
 same_handed (packet m word ∷ cs) s = packet_hands s m word cs (same_handed cs)
 same_handed (event e ∷ cs) s = also_from cs (after_call stand_in s (event e)) (same_handed cs (after_call stand_in s (event e))) (call_forgotten s (event e))
-same_handed (breakpoint ∷ cs) s = also_from cs (after_call stand_in s breakpoint) (same_handed cs (after_call stand_in s breakpoint)) (call_forgotten s breakpoint)
+same_handed (breakpoint ∷ cs) s =
+    also_from cs (after_call stand_in s breakpoint) (same_handed cs (after_call stand_in s breakpoint)) (call_forgotten s breakpoint)
 
 -- ---- the promise: of every history on a fresh board
 pub record PortAsBefore (w : ℕ) (history : List Call) : Type 0 where

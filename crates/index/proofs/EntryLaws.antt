@@ -36,12 +36,12 @@ module _ (trace : List ℕ) (i : ℕ) (within : i ≤ length trace) where
   entry_words = words_split trace i within
 
   -- and as many
-  pub entry_count : (entry_at trace i).items + length (rest_at trace i) ≡ length (items trace)
-  entry_count = count_split trace i within
+  pub entry_count_lem : (entry_at trace i).items + length (rest_at trace i) ≡ length (items trace)
+  entry_count_lem = count_split trace i within
 
   -- each word from it on is the trace's, two words later for each item before it
-  pub entry_word : (k : ℕ) → get_or (words (rest_at trace i)) k 0 ≡ get_or (words (items trace)) (2 * (entry_at trace i).items + k) 0
-  entry_word k =
+  pub entry_word_lem : (k : ℕ) → get_or (words (rest_at trace i)) k 0 ≡ get_or (words (items trace)) (2 * (entry_at trace i).items + k) 0
+  entry_word_lem k =
       sym (get_or-append-add (words (items_before trace i)) (words (rest_at trace i)) k 0)
       ∙ ap (λ (w : List ℕ). get_or w (length (words (items_before trace i)) + k) 0) entry_words
       ∙ ap (λ (n : ℕ). get_or (words (items trace)) (n + k) 0) (length_words (items_before trace i))
@@ -49,13 +49,14 @@ module _ (trace : List ℕ) (i : ℕ) (within : i ≤ length trace) where
   -- of a trace that can be read
   module _ (n : ℕ) (reads : reading trace ≡ counted n) where
     rest_count : length (rest_at trace i) ≡ n - (entry_at trace i).items
-    rest_count = omega (arith, entry_count, read_count trace n reads)
+    rest_count = omega (arith, entry_count_lem, read_count trace n reads)
 
     rest_words : length (words (rest_at trace i)) ≡ 2 * (n - (entry_at trace i).items)
     rest_words = omega (arith, rest_count, length_words (rest_at trace i))
 
     -- only the buffer is left to judge
-    only_room : (room : ℕ) → listing_from trace i (carried_into trace i) room ≡ too_short (2 * length (rest_at trace i)) room (counted (length (rest_at trace i)))
+    only_room : (room : ℕ) → listing_from trace i (carried_into trace i) room
+        ≡ too_short (2 * length (rest_at trace i)) room (counted (length (rest_at trace i)))
     only_room room = (read_from trace i (carried_into trace i) room (n - (entry_at trace i).items) (read_on trace i n within reads)).1
 
     module _ (before : List ℕ) (r : Listing) (after : List ℕ) (met : EntryMeets trace (entry_at trace i) before r after) where
@@ -83,7 +84,7 @@ module _ (trace : List ℕ) (i : ℕ) (within : i ≤ length trace) where
         entry_holds k h =
             ap (λ (w : List ℕ). get_or w k 0) entry_stores
             ∙ get_or-append (words (rest_at trace i)) (drop (2 * (n - (entry_at trace i).items)) before) 0 k (omega (arith, rest_words))
-            ∙ entry_word k
+            ∙ entry_word_lem k
 
 -- a full listing that counts n items holds their words
 full_holds : (trace before full : List ℕ) (s : Listing) (n : ℕ) → ListingMeets trace before s full → told_listing s ≡ counted n

@@ -64,7 +64,8 @@ marker_first address ends at p notes rest {s} f more goes =
 
 -- .. where the port is at rest
 marker_between : (address ends at p : ℕ) (notes : List ℕ) (rest : Scene → Course) (s : Scene) → Sound (resting s complete) → p + marker_packets ≤ last_counted
-    → joined (rest (unchained s)).packets (meeting (visit_at address ends at (p + marker_packets) (after_marker ends at)) notes (resting (unchained s) complete))
+    → joined (rest (unchained s)).packets
+    (meeting (visit_at address ends at (p + marker_packets) (after_marker ends at)) notes (resting (unchained s) complete))
     ≡ came_to address at (p + marker_packets) notes (rest (unchained s))
     → joined (behind_marker rest s).packets (meeting (visit_at address ends at p (Marking 0)) notes (resting s complete))
     ≡ came_to address at p notes (behind_marker rest s)

@@ -155,7 +155,8 @@ module _ (address longwords : ℕ) (before : List ℕ) (s : State) (f : Sound s)
   visit_hands = record {
     register = λ j less. handed_over_lem j (omega (arith, counted)) ∙ ap Given (register_at is j (Value 0) less);
     word = λ k less here.
-        handed_over_lem (registers_asked + k) (omega (arith, counted, all_there, table.there k less here)) ∙ ap Given (longword_at is whole k (Value 0) less here);
+        handed_over_lem (registers_asked + k) (omega (arith, counted, all_there, table.there k less here))
+        ∙ ap Given (longword_at is whole k (Value 0) less here);
     missing = λ k less before-it gone.
         let it = first_missing k less before-it gone in
         let short : there < longwords = omega arith in

@@ -34,5 +34,6 @@ pub record FirstMarker : Type 0 where
   pub too_late : stage_at (λ i. 22) (starts illegal (replicate 22 complete)) 24 ≡ Asking 0 First
 
 pub first_marker : FirstMarker
-unfolding lagged exchanged_for heard noted next_of mark_word mark_holds reply_now stepped plan_for begun collected work_after decoded decoded_word fresh_board fresh_place
+unfolding lagged exchanged_for heard noted next_of mark_word mark_holds reply_now stepped plan_for begun collected work_after decoded decoded_word
+    fresh_board fresh_place
 first_marker = record { passed = refl; then_asks = refl; one_late = refl; many_late = refl; too_late = refl }

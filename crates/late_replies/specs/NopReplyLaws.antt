@@ -67,7 +67,8 @@ module _ (s : Scene) (sized : Sized s) (address : ℕ) where
   work_no_illegal Nop = omega arith
   work_no_illegal (Load size base) =
       fits_no_illegal (OfSize size) (work_ending (Load size base) address s) ((load_meant size s base address 0).fits cleared_sized)
-  work_no_illegal (Store size base) = fits_no_illegal NoResult (work_ending (Store size base) address s) ((store_meant size s base address 0).fits cleared_sized)
+  work_no_illegal (Store size base) =
+      fits_no_illegal NoResult (work_ending (Store size base) address s) ((store_meant size s base address 0).fits cleared_sized)
   work_no_illegal (Show from) = shown_no_illegal from
   work_no_illegal (Change target) = change_no_illegal (reached target address)
 

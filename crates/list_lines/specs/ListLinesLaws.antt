@@ -1,5 +1,6 @@
 -- Laws of reading a list: byte by byte of a number, and line by line.
-use Rattle.std.specs.Prelude.{◌≡◌, refl, ℕ, zero, suc, ◌+◌, ◌-◌, ◌*◌, ◌≤◌, ◌<◌, Bool, true, false, cond, List, [], ◌∷◌, eqb, ltb, length, get_or, take, drop, set}
+use Rattle.std.specs.Prelude.{◌≡◌, refl, ℕ, zero, suc, ◌+◌, ◌-◌, ◌*◌, ◌≤◌, ◌<◌, Bool, true, false, cond, List, [], ◌∷◌, eqb, ltb, length, get_or}
+use Rattle.std.specs.Prelude.{take, drop, set}
 use Rattle.std.proofs.Common.{ap, sym, ◌∙◌, add-zero, zero-add, add_assoc, add-one, length-take, length-drop, drop_of_length-le, eq-eqb, ne_eqb, ltb-false}
 use Rattle.std.proofs.Math.Nat.{sub-zero}
 use native.Mathlib.Omega.{arith}

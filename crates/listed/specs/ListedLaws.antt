@@ -24,7 +24,8 @@ two_on words i h =
 
 -- the items from one of them on
 pub items_on : (words : List ℕ) (k : ℕ) → k < length words / 2
-    → items_text (drop (2 * k) words) ≡ ascii ", " ++ words_of_item (get_or words (2 * k) 0) (get_or words (2 * k + 1) 0) ++ items_text (drop (2 * (k + 1)) words)
+    → items_text (drop (2 * k) words) ≡ ascii ", " ++ words_of_item (get_or words (2 * k) 0) (get_or words (2 * k + 1) 0)
+    ++ items_text (drop (2 * (k + 1)) words)
 items_on words k h =
     let e : 2 * (k + 1) ≡ 2 * k + 2 = omega arith in
     rw (two_on words (2 * k) (omega arith), e)

@@ -1,6 +1,7 @@
 -- What mend prints is what unmend reads: its numbers, its lines and its head are read back, and with the mended trace behind it the list is taken.
 use Rattle.std.specs.Prelude.{◌≡◌, refl, ℕ, zero, suc, ◌+◌, ◌-◌, ◌*◌, ◌/◌, ◌%◌, ◌^◌, ◌≤◌, ◌<◌, Bool, true, false, cond, List, [], ◌∷◌, ◌++◌, ltb, length, drop}
-use Rattle.std.proofs.Common.{ap, sym, ◌∙◌, append_assoc, add-zero, div-le_self, div-one, mod-lt, add-one, arith, length-append, take_at, drop_at, drop-drop, lt-ltb, le-ltb, eq-eqb, ne_eqb}
+use Rattle.std.proofs.Common.{ap, sym, ◌∙◌, append_assoc, add-zero, div-le_self, div-one, mod-lt, add-one, arith, length-append, take_at, drop_at}
+use Rattle.std.proofs.Common.{drop-drop, lt-ltb, le-ltb, eq-eqb, ne_eqb}
 use Rattle.std.proofs.Math.Nat.{div-add-mod, div-eq_of_lt, pow-zero}
 use Rattle.std.proofs.Math.Seq.{drop-append-add}
 use Rattle.same.specs.SameListLaws.{equal_same}

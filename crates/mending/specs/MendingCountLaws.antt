@@ -44,14 +44,16 @@ module _ (trace : List ℕ) where
   third_adds i a = by_test (eqb i (cut_short trace)) here there
     where
       here : eqb i (cut_short trace) ≡ true
-          → wipes (pst trace i) (mended_pst trace i) + one (ltb (cut_short trace) i) ≡ wipes (pst trace i) (kept_at trace i) + one (ltb (cut_short trace) (suc i))
+          → wipes (pst trace i) (mended_pst trace i) + one (ltb (cut_short trace) i)
+          ≡ wipes (pst trace i) (kept_at trace i) + one (ltb (cut_short trace) (suc i))
       here e =
           let same : i ≡ cut_short trace = eqb-true _ _ e in
           let own = own_marker (kept_or_wiped (found trace i).due (pst trace i)) (rw (sym same) at (a (omega arith)).stands) in
           rw (rw (sym same) at (at_cut trace), own.0, own.1, le-ltb (cut_short trace) i (omega arith), lt-ltb (cut_short trace) (suc i) (omega arith))
 
       there : eqb i (cut_short trace) ≡ false
-          → wipes (pst trace i) (mended_pst trace i) + one (ltb (cut_short trace) i) ≡ wipes (pst trace i) (kept_at trace i) + one (ltb (cut_short trace) (suc i))
+          → wipes (pst trace i) (mended_pst trace i) + one (ltb (cut_short trace) i)
+          ≡ wipes (pst trace i) (kept_at trace i) + one (ltb (cut_short trace) (suc i))
       there e = let other : i ≡ cut_short trace → ⊥ = eqb-false _ _ e in
           rw (elsewhere trace i other, below_next (cut_short trace) i (λ same. other (sym same)))
 

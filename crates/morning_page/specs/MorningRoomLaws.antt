@@ -47,7 +47,8 @@ checks_length number (check ∷ checks) =
 pub verdict_length : (bad : ℕ) → length (verdict_text bad) ≤ 200
 verdict_length bad = by_test (eqb bad 0)
   where
-    by_test : (t : Bool) → length (cond t (good_letters ++ ascii "ALL 9 GOOD\n") (bad_letters ++ decimal_text bad ++ ascii " BAD OF 9: HAND OUT NO POD\n")) ≤ 200
+    by_test : (t : Bool) → length (cond t (good_letters ++ ascii "ALL 9 GOOD\n")
+        (bad_letters ++ decimal_text bad ++ ascii " BAD OF 9: HAND OUT NO POD\n")) ≤ 200
     by_test true = omega arith
     by_test false =
         omega (

@@ -83,7 +83,8 @@ module _ (before : List ℕ) (full : length before ≡ 2048) where
   replies_said request replies true = by_room (leb (length replies) 2048)
     where
       by_room : (fits : Bool)
-          → line_text (read_answer request (cond fits (Count (length replies)) TooMany)) (buffer_after (cond fits (Count (length replies)) TooMany) replies before)
+          → line_text (read_answer request (cond fits (Count (length replies)) TooMany))
+          (buffer_after (cond fits (Count (length replies)) TooMany) replies before)
           ≡ read_text request (cond fits (Count (length replies)) TooMany) (values replies)
       by_room true =
           let read : take (length replies) (values replies ++ drop (length replies) before) ≡ values replies =

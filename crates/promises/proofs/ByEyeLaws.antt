@@ -52,9 +52,11 @@ p5_by_packets w pbr ablr lanes small narrow-pbr narrow-ablr even =
         ∙ ap (λ (s : State). after stand_in s calls) (p5_set_by_packets w pbr ablr small narrow-pbr narrow-ablr))
 
 pub by_eye : ByEye
-unfolding fresh_board fresh_place in_range bstat_in_range fetched stored decoded decoded_word csr_value bstat_read debug_loaded debug_written control_index control_fetched
+unfolding fresh_board fresh_place in_range bstat_in_range fetched stored decoded decoded_word csr_value bstat_read debug_loaded debug_written control_index
+    control_fetched
     control_written work_after collected begun continued plan_for reply_now stepped packet_verdict agree level_of pc_group address_matches attribute_agrees
-    data_enabled address_group joined fires fired_level bstat_after responds firing halting seen status_after event_verdict gives_own afterCycle carried_into value
+    data_enabled address_group joined fires fired_level bstat_after responds firing halting seen status_after event_verdict gives_own afterCycle carried_into
+    value
     items_at items_before items too_long earliest ends_inside too_short judged_from listing handed after finds
 by_eye = record {
   p1 = refl;

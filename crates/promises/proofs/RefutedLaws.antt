@@ -56,7 +56,8 @@ module _ (k : Machine) (rests : (s : State) (word : ℕ) → (k.step s word).pla
   pub always_at_rest : Demand3 k → ⊥
   unfolding fresh_board fresh_place trail finds after stage decoded decoded_word
   always_at_rest d =
-      let taken : k.verdict (lending (made 2) no_memory) 0x1980 ≡ Accepted = (d.rest 2 (omega arith) []).accepted no_memory 0x1980 (omega arith) (omega arith) in
+      let taken : k.verdict (lending (made 2) no_memory) 0x1980 ≡ Accepted =
+      (d.rest 2 (omega arith) []).accepted no_memory 0x1980 (omega arith) (omega arith) in
       rests_too_soon (rw taken at (d.closing 2 (omega arith) (packet no_memory 0x1980 ∷ [])).closes.rests)
 
   -- and of a place
@@ -147,12 +148,14 @@ history words = sends no_memory words
 
 -- WDMREG CSR with one operand of two
 pub operand_early : Demand3 (early hasty_operand) → ⊥
-unfolding fresh_board fresh_place in_range bstat_in_range decoded decoded_word work_after collected begun continued plan_for stepped packet_verdict trail stage finds
+unfolding fresh_board fresh_place in_range bstat_in_range decoded decoded_word work_after collected begun continued plan_for stepped packet_verdict trail
+    stage finds
 operand_early d = true≢false (d.closing 2 (omega arith) (history (0x2C80 ∷ 0 ∷ []))).closes.rests
 
 -- a byte READ with one packet of two waited
 pub wait_early : Demand3 (early hasty_wait) → ⊥
-unfolding fresh_board fresh_place in_range bstat_in_range fetched decoded decoded_word work_after collected begun continued plan_for stepped packet_verdict trail stage
+unfolding fresh_board fresh_place in_range bstat_in_range fetched decoded decoded_word work_after collected begun continued plan_for stepped packet_verdict
+    trail stage
     finds
 wait_early d = true≢false (d.closing 2 (omega arith) (history (0x1900 ∷ 0 ∷ 0 ∷ 0 ∷ []))).closes.rests
 

@@ -101,12 +101,12 @@ within_taken (word ∷ words) zero h = refl
 within_taken (word ∷ words) (suc i) h =
     let both = both_hold (leb word 0x1FFFF) (run.all_within words) h in rw both.0 (within_taken words i both.1)
 
-reply_at : (words : List ℕ) (s : State) (i : ℕ) (beyond : List ℕ) → i < length words
+reply_at_lem : (words : List ℕ) (s : State) (i : ℕ) (beyond : List ℕ) → i < length words
     → get_or (run.replies words s ++ beyond) i 0 ≡ reply_now (run.ran (take i words) s).place
 unfolding run.ran run.replies
-reply_at [] s i beyond h = absurd (omega arith)
-reply_at (word ∷ words) s zero beyond h = refl
-reply_at (word ∷ words) s (suc i) beyond h = reply_at words (stepped s word) i beyond (omega arith)
+reply_at_lem [] s i beyond h = absurd (omega arith)
+reply_at_lem (word ∷ words) s zero beyond h = refl
+reply_at_lem (word ∷ words) s (suc i) beyond h = reply_at_lem words (stepped s word) i beyond (omega arith)
 
 -- ---- a history and the run after it
 -- a packet's memory is lent with it, so it does not matter what stood there
@@ -157,7 +157,7 @@ module _ (w : ℕ) (small : w ≤ 15) (history : List Call) (m : Lent) (words be
       let closes = closing_replies w small (history ++ packets_of found (take i words)) in
       let replies : out ≡ run.replies words found ++ drop (length words) before = meets.answers ∙ rw accepted in
       ap (λ (rs : List ℕ). get_or rs i 0) replies
-      ∙ reply_at words found i (drop (length words) before) h
+      ∙ reply_at_lem words found i (drop (length words) before) h
       ∙ ap reply_now (sym (place_there (take i words) (part i)) ∙ closes.place)
       ∙ closes.closes.next
 

@@ -29,11 +29,13 @@ pub record Tight (w : ℕ) : Type 0 where
   pub number : under_way stand_in (asked w).place (finds stand_in (asked w) (nops (replicate (5 + w) no_memory))) ≡ 4 + w
 
 pub tight_at_0 : Tight 0
-unfolding fresh_board fresh_place in_range bstat_in_range decoded decoded_word control_index control_fetched control_written work_after collected begun continued plan_for
+unfolding fresh_board fresh_place in_range bstat_in_range decoded decoded_word control_index control_fetched control_written work_after collected begun
+    continued plan_for
     stepped packet_verdict under_way after finds
 tight_at_0 = record { fewer = refl; enough = refl; number = refl }
 
 pub tight_at_15 : Tight 15
-unfolding fresh_board fresh_place in_range bstat_in_range decoded decoded_word control_index control_fetched control_written work_after collected begun continued plan_for
+unfolding fresh_board fresh_place in_range bstat_in_range decoded decoded_word control_index control_fetched control_written work_after collected begun
+    continued plan_for
     stepped packet_verdict under_way after finds
 tight_at_15 = record { fewer = refl; enough = refl; number = refl }

@@ -9,7 +9,8 @@ use Rattle.firing.specs.Firing.{seen}
 use Rattle.bus.specs.EventAnswers.{EventTold, told_event}
 use Rattle.bus.specs.Events.{event_outcome}
 use Rattle.bus.specs.EventExamples.{fired, p4_outside, p4_inside, p4_csr, p5_event}
-use Rattle.run.specs.PacketExamples.{sixteen, p1_words, p1_replies, p2_words, p2_replies, p3_words, p3_replies, p6_words, p6_replies, p7_words, p7_replies, p8_words}
+use Rattle.run.specs.PacketExamples.{sixteen, p1_words, p1_replies, p2_words, p2_replies, p3_words, p3_replies, p6_words, p6_replies, p7_words}
+use Rattle.run.specs.PacketExamples.{p7_replies, p8_words}
 use Rattle.run.specs.PacketExamples.{p8_replies}
 use Rattle.cycle.specs.CycleExamples.{p9, p9_words}
 use Rattle.trace.specs.Items.{items, words}

@@ -10,7 +10,8 @@ pub bytes_on : (m : List ℕ) (from count i : ℕ) → i < count
     → bytes_text m (from + i) (count - i) ≡ hex_text 2 (get_or m (from + i) 0) ++ bytes_text m (from + (i + 1)) (count - (i + 1))
 bytes_on m from count i h = by_left (count - i) refl
   where
-    by_left : (left : ℕ) → count - i ≡ left → bytes_text m (from + i) left ≡ hex_text 2 (get_or m (from + i) 0) ++ bytes_text m (from + (i + 1)) (count - (i + 1))
+    by_left : (left : ℕ) → count - i ≡ left
+        → bytes_text m (from + i) left ≡ hex_text 2 (get_or m (from + i) 0) ++ bytes_text m (from + (i + 1)) (count - (i + 1))
     by_left zero e = absurd (omega arith)
     by_left (suc left) e = let f : count - (i + 1) ≡ left = omega arith in rw (f, add-one, add-suc)
 

@@ -27,7 +27,7 @@ words_text words = ascii "words" ++ each_word words
 abbrev pub used_text : ℕ → List ℕ
 used_text used = ascii " used " ++ decimal_text used
 
--- "`value V used N`, `complete used N`, `bus-error used N`, `illegal used N`, `not_yet used N` (.., N decimal); or `refused N at 0`"
+-- "`value V used N`, `complete used N`, `bus-error used N`, `illegal used N`, `not-yet used N` (.., N decimal); or `refused N at 0`"
 abbrev pub reading_text : Reading → List ℕ
 reading_text (Ended outcome used) = outcome_text outcome ++ used_text used
 reading_text (NotYet used) = ascii "not-yet" ++ used_text used

@@ -6,5 +6,6 @@ use Rattle.text.specs.NumberText.{hex_text}
 use Rattle.request_text.specs.RequestText.{each_word}
 
 -- the words from one of them on
-pub words_on : (words : List ℕ) (i : ℕ) → i < length words → each_word (drop i words) ≡ ascii " " ++ hex_text 5 (get_or words i 0) ++ each_word (drop (i + 1) words)
+pub words_on : (words : List ℕ) (i : ℕ) → i < length words
+    → each_word (drop i words) ≡ ascii " " ++ hex_text 5 (get_or words i 0) ++ each_word (drop (i + 1) words)
 words_on words i h = rw (add-one, drop-cons words i 0 h)

@@ -124,7 +124,8 @@ work_after_leaves w left c address value =
 collected_leaves : (w left : ℕ) (c : Command) (t : Operands) → PlanLeaves w (left + waits_of w c + uppers c) (collected w left c t)
 unfolding collected
 collected_leaves w left c t =
-    either (PlanLeaves w (left + waits_of w c + uppers c)) (eqb left 0) (work_after (waits_of w c) c (address_in (operand_words c) t) (value_in (operand_words c) t))
+    either (PlanLeaves w (left + waits_of w c + uppers c)) (eqb left 0)
+    (work_after (waits_of w c) c (address_in (operand_words c) t) (value_in (operand_words c) t))
     (Hold (Due c left t))
     (λ e. leaves_more w (waits_of w c + uppers c) (left + waits_of w c + uppers c)
     (work_after (waits_of w c) c (address_in (operand_words c) t) (value_in (operand_words c) t)) (omega arith)

@@ -114,7 +114,8 @@ module _ (request : Request) (s : Scene) (next : ℕ) (h : in_range request ≡ 
   illegal_talk : legal_there request s ≡ false → exchanged request (resting s next) ≡ talk (Closed Illegal) (illegal_leaves request s) 2
   unfolding exchanged
   illegal_talk l =
-      sent_to_the_end talk_budget request (second_word request ∷ []) 1 First (stepped (resting s next) (command_word request)) Illegal (illegal_leaves request s)
+      sent_to_the_end talk_budget request (second_word request ∷ []) 1 First (stepped (resting s next) (command_word request)) Illegal
+      (illegal_leaves request s)
       (refl, tt) (omega arith) (illegal_closes request s next l)
 
   pub exchange_from_rest : Sized s → s.board.w ≤ 15 → exchanged request (resting s next) ≡ talk_there request s

@@ -17,7 +17,8 @@ module _ (m : List ℕ) (at v : ℕ) where
   word_back h =
       let upper : get_or (put_word m at v) at 0 ≡ v / 256 % 256 =
       get_or-set_other (set m at (v / 256 % 256)) (at + 1) at (v % 256) 0 (λ e. omega arith) ∙ get_or-set_same m at (v / 256 % 256) 0 (omega arith) in
-      let lower : get_or (put_word m at v) (at + 1) 0 ≡ v % 256 = get_or-set_same (set m at (v / 256 % 256)) (at + 1) (v % 256) 0 (simp length-set (omega arith)) in
+      let lower : get_or (put_word m at v) (at + 1) 0 ≡ v % 256 =
+      get_or-set_same (set m at (v / 256 % 256)) (at + 1) (v % 256) 0 (simp length-set (omega arith)) in
       rw (upper, lower) (omega arith)
 
   word_apart : word_at (put_word m (at + 2) v) at ≡ word_at m at

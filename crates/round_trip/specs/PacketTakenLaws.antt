@@ -65,7 +65,8 @@ pub waits_more : (k : ℕ) (c : Command) (address value : ℕ) → work_after (s
 unfolding work_after
 waits_more k c address value = rw (ne_eqb (suc k) 0 (omega arith))
 
-pub due_none : (w : ℕ) (c : Command) (t : Operands) → collected w 0 c t ≡ work_after (waits_of w c) c (address_in (operand_words c) t) (value_in (operand_words c) t)
+pub due_none : (w : ℕ) (c : Command) (t : Operands)
+    → collected w 0 c t ≡ work_after (waits_of w c) c (address_in (operand_words c) t) (value_in (operand_words c) t)
 unfolding collected
 due_none w c t = refl
 

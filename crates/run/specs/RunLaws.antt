@@ -1,6 +1,7 @@
 -- Laws of a run: how its loop goes on, and where its replies stand.
 use Rattle.std.specs.Prelude.{ℕ, suc, ◌+◌, ◌≤◌, ◌<◌, ◌≡◌, refl, Bool, true, false, ◌&&◌, List, [], ◌∷◌, ◌++◌, leb, length, get_or, set, take, drop}
-use Rattle.std.proofs.Common.{sym, ◌∙◌, append_assoc, add-one, arith, length-set, drop_of_length-le, take-append-drop, drop-cons, take-suc-set, drop-set-lt, leb-true}
+use Rattle.std.proofs.Common.{sym, ◌∙◌, append_assoc, add-one, arith, length-set, drop_of_length-le, take-append-drop, drop-cons, take-suc-set}
+use Rattle.std.proofs.Common.{drop-set-lt, leb-true}
 use Rattle.board.specs.declared.Board.{Board}
 use Rattle.board.specs.declared.Place.{Place}
 use Rattle.board.specs.declared.Phase.{Phase}

@@ -1,5 +1,6 @@
 -- Laws of what an answer is made of: letters, digits and spaces, so that no line end is among its bytes; and every answer but that to a silent line has some.
-use Rattle.std.specs.Prelude.{ℕ, zero, suc, ◌+◌, ◌/◌, ◌%◌, ◌^◌, ◌≤◌, ◌<◌, ◌≡◌, refl, Bool, true, false, cond, ◌&&◌, List, [], ◌∷◌, ◌++◌, leb, ltb, length, get_or, take}
+use Rattle.std.specs.Prelude.{ℕ, zero, suc, ◌+◌, ◌/◌, ◌%◌, ◌^◌, ◌≤◌, ◌<◌, ◌≡◌, refl, Bool, true, false, cond, ◌&&◌, List, [], ◌∷◌, ◌++◌, leb, ltb}
+use Rattle.std.specs.Prelude.{length, get_or, take}
 use Prim.Native.String.{String}
 use Rattle.std.proofs.Common.{arith, length-append, leb-true, le-leb, ne_eqb}
 use Rattle.laws.specs.TestLaws.{both_hold}

@@ -41,9 +41,9 @@ use Rattle.answers.specs.Bench.{Left, port_state}
 use Rattle.answers.specs.Said.{Answers}
 use Rattle.line_answers.specs.LineSaid.{said}
 use Rattle.text_laws.specs.TextUnique.{puts_unique}
-use Rattle.answers.specs.SaidLaws.{packet_outcome}
+use Rattle.answers.specs.SaidLaws.{packet_outcome_lem}
 use Rattle.asking.specs.Asking.{exchanged_text, exchange_said}
-use Rattle.asking.specs.AskingLaws.{exchange_outcome}
+use Rattle.asking.specs.AskingLaws.{exchange_outcome_lem}
 use Rattle.languages.specs.declared.Language.TheVariants.{StandIn, Talk}
 use Rattle.languages.specs.Heard.{heard_own, heard, said_to}
 use Rattle.course.specs.Course.{told_text}
@@ -82,7 +82,7 @@ module _ (line : List ℕ) (word : ℕ) (bench : Bench) (m : List ℕ) {r : Answ
       × ((o : Outcome) → PacketHeld o → packet_text o ≡ said line (Packet word) bench m → o ≡ r.outcome)
   unfolding said
   packet_said_unique meets =
-      let due = packet_outcome meets in
+      let due = packet_outcome_lem meets in
       let held = packet_held (port_state bench (take bench.lent m)) word in
       (ap packet_text (sym due), λ o h e. packet_text_unique o _ h held e ∙ sym due)
 
@@ -130,9 +130,9 @@ module _ (request : Request) (bench : Bench) (m : List ℕ) {r : Returned} {afte
       → (exchange_said request bench (take bench.lent m) ≡ exchanged_text r.answer)
       × ((x : Exchanged) → ExchangeHeld x → exchanged_text x ≡ exchange_said request bench (take bench.lent m) → x ≡ r.answer)
   exchange_said_unique meets typed =
-      let answer = exchange_outcome meets in
+      let answer = exchange_outcome_lem meets in
       let held : ExchangeHeld r.answer = rw answer (exchange_held request (port_state bench (take bench.lent m)) typed) in
-      let said = ap exchanged_text (sym (exchange_outcome meets)) in
+      let said = ap exchanged_text (sym (exchange_outcome_lem meets)) in
       (said, λ x h e. exchanged_unique x r.answer h held (e ∙ said))
 
 -- so of every line that asks for a request by a name and a number, however it is typed

@@ -1,6 +1,7 @@
 -- Laws of a script: line by line, and what is put behind what was put.
 use Rattle.std.specs.Prelude.{ℕ, suc, ◌+◌, ◌-◌, ◌≤◌, ◌<◌, ◌≡◌, refl, Bool, true, false, cond, List, [], ◌∷◌, ◌++◌, eqb, leb, length, get_or, take, drop}
-use Rattle.std.proofs.Common.{ap, sym, ◌∙◌, append_assoc, arith, suc-add, length-take, length-drop, drop_of_length-le, drop-drop, take_all, eq-eqb, ne_eqb, leb-true, leb-false}
+use Rattle.std.proofs.Common.{ap, sym, ◌∙◌, append_assoc, arith, suc-add, length-take, length-drop, drop_of_length-le, drop-drop, take_all, eq-eqb}
+use Rattle.std.proofs.Common.{ne_eqb, leb-true, leb-false}
 use Rattle.std.proofs.Math.Seq.{take-length}
 use Rattle.words.specs.LineWords.{joined}
 use Rattle.words.specs.LineWordLaws.{from_here}
@@ -45,7 +46,8 @@ lines_cut byte [] = by_test (eqb byte 10)
     by_test false = refl
 lines_cut byte (next ∷ bytes) = by_test (lines_cut next bytes) (eqb byte 10)
   where
-    by_test : lines (next ∷ bytes) ≡ take (line_length (next ∷ bytes)) (next ∷ bytes) ∷ lines (drop (line_length (next ∷ bytes) + 1) (next ∷ bytes)) → (t : Bool)
+    by_test : lines (next ∷ bytes) ≡ take (line_length (next ∷ bytes)) (next ∷ bytes) ∷ lines (drop (line_length (next ∷ bytes) + 1) (next ∷ bytes))
+        → (t : Bool)
         → cond t ([] ∷ lines (next ∷ bytes)) (joined byte (lines (next ∷ bytes)))
         ≡ take (cond t 0 (suc (line_length (next ∷ bytes)))) (byte ∷ next ∷ bytes)
         ∷ lines (drop (cond t 0 (suc (line_length (next ∷ bytes))) + 1) (byte ∷ next ∷ bytes))

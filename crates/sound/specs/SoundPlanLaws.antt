@@ -10,7 +10,8 @@ use Rattle.board.specs.declared.Phase.TheVariants.{Rest, Due, Waiting, Upper}
 use Rattle.board.specs.declared.Standing.{Standing}
 use Rattle.plan.specs.declared.Plan.{Plan}
 use Rattle.plan.specs.declared.Plan.TheVariants.{Hold, Reject, Release, Work}
-use Rattle.plan.specs.Plan.{carries_c, legal_word, no_operands, with_operand, address_in, value_in, long, waits_of, work_after, collected, begun, continued, plan_of}
+use Rattle.plan.specs.Plan.{carries_c, legal_word, no_operands, with_operand, address_in, value_in, long, waits_of, work_after, collected, begun}
+use Rattle.plan.specs.Plan.{continued, plan_of}
 use Rattle.laws.specs.TestLaws.{either}
 use Rattle.sound.specs.Sound.{OperandsWithin, PhaseWithin}
 
@@ -55,7 +56,8 @@ collected_within : (w left : ℕ) (c : Command) (t : Operands) → left ≤ oper
 unfolding collected
 collected_within w left c t h o =
     either (PlanWithin w) (eqb left 0) (work_after (waits_of w c) c (address_in (operand_words c) t) (value_in (operand_words c) t)) (Hold (Due c left t))
-    (λ e. work_after_within w (waits_of w c) c (address_in (operand_words c) t) (value_in (operand_words c) t) (omega arith) (address_within (operand_words c) t o)
+    (λ e. work_after_within w (waits_of w c) c (address_in (operand_words c) t) (value_in (operand_words c) t) (omega arith)
+    (address_within (operand_words c) t o)
     (value_in_within (operand_words c) t o))
     (λ e. (not_zero left e, h, o))
 

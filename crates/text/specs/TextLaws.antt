@@ -1,6 +1,7 @@
 -- Laws of text put into a buffer: two texts put one after the other are one text, and what is told is the text.
 use Rattle.std.specs.Prelude.{ℕ, suc, ◌+◌, ◌≤◌, ◌<◌, ◌≡◌, refl, Bool, true, false, List, [], ◌∷◌, ◌++◌, leb, length, take, drop}
-use Rattle.std.proofs.Common.{ap, sym, ◌∙◌, arith, zero-add, length-append, length-take, take-append-drop, drop_of_length-le, take_at, take_all, leb-true, leb-false}
+use Rattle.std.proofs.Common.{ap, sym, ◌∙◌, arith, zero-add, length-append, length-take, take-append-drop, drop_of_length-le, take_at, take_all}
+use Rattle.std.proofs.Common.{leb-true, leb-false}
 use Rattle.std.proofs.lemmas.List.Edits.{sets, sets-eq}
 use Rattle.std.proofs.Math.Seq.{length-sets, set_out}
 use Rattle.laws.specs.StoreLaws.{sets_append}

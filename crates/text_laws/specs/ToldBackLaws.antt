@@ -118,7 +118,7 @@ OutcomeHeld Complete = Unit
 OutcomeHeld BusError = Unit
 OutcomeHeld Illegal = Unit
 
--- a reading: `not_yet` and `refused` are the others
+-- a reading: `not-yet` and `refused` are the others
 abbrev pub reading_of : List ℕ → Reading
 reading_of text =
     cond (eqb (get_or text 0 0) 114) (Refused (refusal_of text))

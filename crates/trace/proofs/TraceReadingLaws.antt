@@ -128,7 +128,8 @@ unfolding reading_from judged_from too_long
 read_short trace i c n e = by_test (ltb 65536 (length trace)) refl e
   where
     by_test : (b : Bool) → ltb 65536 (length trace) ≡ b
-        → cond b (refusal 7 0) (earliest trace i c (length trace - i) (ends_inside (counted (length (items_to_end trace i c))))) ≡ counted n → length trace ≤ 65536
+        → cond b (refusal 7 0) (earliest trace i c (length trace - i) (ends_inside (counted (length (items_to_end trace i c))))) ≡ counted n
+        → length trace ≤ 65536
     by_test true t e = let z : ◌≡◌ {A = ℕ} 0 1 = cc in absurd (omega arith)
     by_test false t e = ltb-false 65536 (length trace) t
 

@@ -47,7 +47,8 @@ items_from_le trace i c (suc n) =
     )
 
 -- the items before cycle i and those of n cycles from it on are those before the cycle after them
-pub items_from_lem : (trace : List ℕ) (n i : ℕ) (c : Carried) → c ≡ carried_into trace i → items_before trace i ++ items_from trace i c n ≡ items_before trace (i + n)
+pub items_from_lem : (trace : List ℕ) (n i : ℕ) (c : Carried) → c ≡ carried_into trace i
+    → items_before trace i ++ items_from trace i c n ≡ items_before trace (i + n)
 unfolding items_from
 items_from_lem trace zero i c e = rw (add-zero i) (append-nil (items_before trace i))
 items_from_lem trace (suc n) i c e =

@@ -29,9 +29,11 @@ module _ (word : List ℕ) (n i : ℕ) (h : i < length word) where
       unfolding decimal
       too_wide w = first_of ∙ rw (le-ltb (get_or word i 0) 48 b, le-ltb 57 (get_or word i 0) a, lt-ltb 0xFFFFFFFF (n * 10 + (get_or word i 0 - 48)) w) refl
 
-      pub one_digit_more : n * 10 + (get_or word i 0 - 48) ≤ 0xFFFFFFFF → decimal n (drop i word) ≡ decimal (n * 10 + (get_or word i 0 - 48)) (drop (i + 1) word)
+      pub one_digit_more : n * 10 + (get_or word i 0 - 48) ≤ 0xFFFFFFFF
+          → decimal n (drop i word) ≡ decimal (n * 10 + (get_or word i 0 - 48)) (drop (i + 1) word)
       unfolding decimal
-      one_digit_more w = first_of ∙ rw (le-ltb (get_or word i 0) 48 b, le-ltb 57 (get_or word i 0) a, le-ltb 0xFFFFFFFF (n * 10 + (get_or word i 0 - 48)) w) refl
+      one_digit_more w = first_of
+          ∙ rw (le-ltb (get_or word i 0) 48 b, le-ltb 57 (get_or word i 0) a, le-ltb 0xFFFFFFFF (n * 10 + (get_or word i 0 - 48)) w) refl
 
 pub no_byte_left : (word : List ℕ) (n i : ℕ) → length word ≤ i → decimal n (drop i word) ≡ From n
 unfolding decimal

@@ -30,7 +30,7 @@ fires_by held level d event =
     && joined level.t (pc_group level d event.pc)
     (record { enabled = level.eal || level.ear || level.eai; holds = address_by held level d event.bus })
 
--- 01 before [1] of 02: the data's condition was another, and nothing else (`fires-by`)
+-- 01 before [1] of 02: the data's condition was another, and nothing else (`fires_by_lem`)
 abbrev pub fires_before : Level → Debug → Event → Bool
 fires_before level d event = fires_by (data_held_before level d) level d event
 

@@ -1,6 +1,7 @@
 -- Laws of what an input comes to: too long, without a list, with one that is not its trace's, and with its own.
 use Rattle.std.specs.Prelude.{◌≡◌, refl, ℕ, ◌-◌, ◌≤◌, ◌<◌, Bool, true, false, cond, ◌&&◌, List, ◌++◌, eqb, ltb, length, take, drop}
-use Rattle.std.proofs.Common.{ap, sym, ◌∙◌, append-nil, arith, length-drop, drop_of_length-le, take-append-drop, take_at, take_all, lt-ltb, le-ltb, eq-eqb, ne_eqb}
+use Rattle.std.proofs.Common.{ap, sym, ◌∙◌, append-nil, arith, length-drop, drop_of_length-le, take-append-drop, take_at, take_all, lt-ltb, le-ltb}
+use Rattle.std.proofs.Common.{eq-eqb, ne_eqb}
 use Rattle.std.proofs.Math.Bool.{and-false}
 use Rattle.std.proofs.lemmas.List.Edits.{sets}
 use Rattle.laws.specs.StoreLaws.{sets_front}

@@ -21,7 +21,8 @@ use Rattle.visit.specs.declared.Stage.TheVariants.{Marking, Asking, AsRead, NotR
 use Rattle.visit.specs.declared.Visit.{Visit}
 use Rattle.visit.specs.declared.Started.TheVariants.{Begun}
 use Rattle.visit.specs.Visit.{start_of, request_now, patience, counted, on_stage, after_marker, mark_stage, is_illegal, is_bus_error, afterwards}
-use Rattle.visit.specs.Visit.{stage_after, notable, closed_by, first_stage, second_stage, read_by, reader_after, command_stage, ask_stage, heard_at, is_over, heard}
+use Rattle.visit.specs.Visit.{stage_after, notable, closed_by, first_stage, second_stage, read_by, reader_after, command_stage, ask_stage, heard_at}
+use Rattle.visit.specs.Visit.{is_over, heard}
 use Rattle.visit.specs.VisitEnds.{most_packets, heard_all, replies_heard}
 use Rattle.visit.specs.VisitLaws.{table_bound, begun_with, over_stays}
 

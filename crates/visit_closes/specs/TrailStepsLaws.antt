@@ -85,7 +85,8 @@ heard_begins f p (o ∷ os) h = begins_at f p o os (stage o) h
 -- ---- a history that goes on
 -- the words of two histories, one after the other
 abbrev pub Both : State → Trail → List Call → List Call → Type 0
-Both s t xs ys = trail stand_in t (finds stand_in s (xs ++ ys)) ≡ trail stand_in (trail stand_in t (finds stand_in s xs)) (finds stand_in (after stand_in s xs) ys)
+Both s t xs ys = trail stand_in t (finds stand_in s (xs ++ ys))
+    ≡ trail stand_in (trail stand_in t (finds stand_in s xs)) (finds stand_in (after stand_in s xs) ys)
 
 goes_on_by : (v : Verdict) (s taken : State) (t : Trail) (f : Found) (xs ys : List Call) → Both taken (noted stand_in t f) xs ys → Both s t xs ys
     → trail stand_in t (if_accepted v (f ∷ finds stand_in (if_accepted v taken s) (xs ++ ys)) (finds stand_in (if_accepted v taken s) (xs ++ ys)))

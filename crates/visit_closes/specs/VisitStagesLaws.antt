@@ -23,7 +23,8 @@ use Rattle.visit.specs.declared.Stage.{Stage}
 use Rattle.visit.specs.declared.Stage.TheVariants.{Marking, Asking, AsRead, NotRead}
 use Rattle.visit.specs.declared.Reason.TheVariants.{Late, NotReady}
 use Rattle.visit.specs.declared.Visit.{Visit}
-use Rattle.visit.specs.Visit.{request_now, packet_by, patience, on_stage, after_marker, is_illegal, afterwards, ends_after, notable, closed_by, read_by, reader_after}
+use Rattle.visit.specs.Visit.{request_now, packet_by, patience, on_stage, after_marker, is_illegal, afterwards, ends_after, notable, closed_by}
+use Rattle.visit.specs.Visit.{read_by, reader_after}
 use Rattle.visit.specs.Visit as visit
 use Rattle.round_trip.specs.RoundTrip.{scene_of, standing_in}
 use Rattle.round_trip.specs.PacketTakenLaws.{illegal_taken}
@@ -118,7 +119,8 @@ module _ (w : ℕ) (v : Visit) {s : State} (f : Sound s) (words : List Word) (te
       (λ e. tt)
 
   command_stands : (reader : Reader) → (reader ≡ First) × (at_rest s.place.phase ≡ true)
-      → StandsNow (visit.heard_at v (Asking 0 reader) (reply_now s.place)) (stepped s (command_word (request_now v))) (words_after (command_word (request_now v)))
+      → StandsNow (visit.heard_at v (Asking 0 reader) (reply_now s.place)) (stepped s (command_word (request_now v)))
+      (words_after (command_word (request_now v)))
   command_stands reader h =
       let s' = stepped s (command_word (request_now v)) in
       let later = words_after (command_word (request_now v)) in

@@ -143,9 +143,9 @@ module _ (w : ℕ) (small : w ≤ 15) (line : List ℕ) (l : Left) (s : Stands l
   prepared_same StateAsked h = none_such h
   prepared_same Unclear h = none_such h
 
-  pub same_line : (asked : TalkLine) → is_taken asked l.bench.lent ≡ true → SameLine w line asked l
-  same_line (BoardAsked asked) h = prepared_same asked h
-  same_line (Ask request) h = asked_same request
+  pub same_line_lem : (asked : TalkLine) → is_taken asked l.bench.lent ≡ true → SameLine w line asked l
+  same_line_lem (BoardAsked asked) h = prepared_same asked h
+  same_line_lem (Ask request) h = asked_same request
 
 -- ---- line after line
 pub record SameFile (w : ℕ) (lines : List (List ℕ)) (l : Left) : Type 0 where
@@ -160,7 +160,7 @@ same_file w small [] l s = record { taken = refl; rows = refl; leaves = refl; be
 same_file w small (line ∷ lines) l s =
     by_test (taken_in line l)
     (λ t.
-    let one = same_line w small line l s (talk_line line) t in
+    let one = same_line_lem w small line l s (talk_line line) t in
     let more = same_file w small lines (left_by line l) one.stands in
     record {
       taken = rw (t, one.leaves) more.taken;

@@ -18,7 +18,7 @@ use Rattle.answers.specs.Bench.{Left, port_state}
 use Rattle.every_wait.specs.OneRequestLaws.{ready_at, ready_sound}
 use Rattle.waits_lines.specs.WaitsLines.{file_lines, answer_in, packets_in, packets_as, taken_in, left_by, packets}
 use Rattle.waits_run.specs.WaitsRun.{start_at, packets_at}
-use Rattle.waits_laws.specs.FileSameLaws.{bench_at, Stands, same_line, start_at_lem, start_stands}
+use Rattle.waits_laws.specs.FileSameLaws.{bench_at, Stands, same_line_lem, start_at_lem, start_stands}
 use Rattle.waits_laws.specs.WaitsRoomLaws.{total, lines_total}
 
 -- what the port finds on the bench
@@ -45,7 +45,7 @@ packets_few [] l s = omega arith
 packets_few (line ∷ lines) l s =
     by_test (taken_in line l)
     (λ t.
-    let after = (same_line 0 (omega arith) line l s (talk_line line) t).stands in
+    let after = (same_line_lem 0 (omega arith) line l s (talk_line line) t).stands in
     rw t (omega (arith, asked_few (talk_line line) l s, packets_few lines (left_by line l) after)))
     (λ t. rw t (omega arith))
 

@@ -122,7 +122,8 @@ rests_whole input l text r text' m' p =
 -- a line that is taken, and the lines after it
 taken_on : {line : List ℕ} {lines : List (List ℕ)} {l l' : Left} {at at' sent n from end : ℕ} {text text' text'' m' : List ℕ} {r : Gone}
     → taken_in line l ≡ true → l' ≡ left_by line l → Puts text at (row_as line (talk_line line) l) text' at' → n ≡ packets_as (talk_line line) l
-    → end ≡ from + length line → TakenFrom lines l' at' (capped (sent + n)) (end + 1) text' r text'' m' → TakenFrom (line ∷ lines) l at sent from text r text'' m'
+    → end ≡ from + length line → TakenFrom lines l' at' (capped (sent + n)) (end + 1) text' r text'' m'
+    → TakenFrom (line ∷ lines) l at sent from text r text'' m'
 unfolding lines_leave rows packets all_taken bytes_before
 taken_on {line} {lines} {l} {sent = sent} {r = r} t stands puts count e more =
     record {

@@ -1,5 +1,6 @@
 -- Laws of words: where they start and end in their line, and how they are compared, byte by byte.
-use Rattle.std.specs.Prelude.{ℕ, zero, suc, ◌+◌, ◌-◌, ◌<◌, ◌≤◌, ◌≡◌, refl, Bool, true, false, cond, ◌&&◌, List, [], ◌∷◌, map, leb, eqb, length, get_or, take, drop}
+use Rattle.std.specs.Prelude.{ℕ, zero, suc, ◌+◌, ◌-◌, ◌<◌, ◌≤◌, ◌≡◌, refl, Bool, true, false, cond, ◌&&◌, List, [], ◌∷◌, map, leb, eqb, length}
+use Rattle.std.specs.Prelude.{get_or, take, drop}
 use Rattle.std.proofs.Common.{arith, ap, ◌∙◌, length-drop, drop_of_length-le, drop-drop, leb-true, eq-eqb, ne_eqb, eqb-true}
 use Rattle.std.proofs.Math.Bool.{and-false}
 use Rattle.std.proofs.lemmas.List.{length-map}
@@ -18,7 +19,8 @@ pub gap_out : (line : List ℕ) (i : ℕ) → length line ≤ i → gap_length (
 gap_out line i h = rw (drop_of_length-le line h)
 
 -- the bytes of a word passed one by one
-pub word_goes_on : (line : List ℕ) (i : ℕ) → i < length line → is_gap (get_or line i 0) ≡ false → word_length (drop i line) ≡ suc (word_length (drop (i + 1) line))
+pub word_goes_on : (line : List ℕ) (i : ℕ) → i < length line → is_gap (get_or line i 0) ≡ false
+    → word_length (drop i line) ≡ suc (word_length (drop (i + 1) line))
 word_goes_on line i h e = rw (from_here line i h, e)
 
 pub word_stops : (line : List ℕ) (i : ℕ) → i < length line → is_gap (get_or line i 0) ≡ true → word_length (drop i line) ≡ 0
@@ -136,7 +138,8 @@ last_behind (byte ∷ bytes) (suc at) h =
     let some : last_end bytes ≡ 0 → ⊥ = λ e. omega (arith, ih, h, e) in
     rw (ne_eqb (last_end bytes) 0 some, and-false) (omega (arith, ih))
 
-pub last_end_lem : (line : List ℕ) (at start close : ℕ) → start ≡ at + gap_length (drop at line) → start < length line → close ≡ start + word_length (drop start line)
+pub last_end_lem : (line : List ℕ) (at start close : ℕ) → start ≡ at + gap_length (drop at line) → start < length line
+    → close ≡ start + word_length (drop start line)
     → length line ≤ close + gap_length (drop close line) → last_end line ≡ close
 last_end_lem line at start close p h q none =
     let behind = drop-drop (word_length (drop start line)) start line in

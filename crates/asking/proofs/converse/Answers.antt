@@ -1,4 +1,4 @@
-use Rattle.asking.specs.AskingLaws.{exchange_outcome}
+use Rattle.asking.specs.AskingLaws.{exchange_outcome_lem}
 use mathlib.Core.Path.{ap, ◌∙◌}
 use Rattle.board.specs.State.{State}
 use Rattle.answers.specs.Bench.{with_state}
@@ -10,5 +10,5 @@ returns c = let taken = c.exchange-returned.ensures in
     record {
       bench = c.bench_after.ensures.0 ∙ ap (λ (s : State). (with_state bench s).bench) taken.state;
       memory = ap (λ (s : State). s.memory) taken.state;
-      text = rw (← exchange_outcome taken, c.bench_after.ensures.1) c.put_exchanged-end.ensures;
+      text = rw (← exchange_outcome_lem taken, c.bench_after.ensures.1) c.put_exchanged-end.ensures;
     }
