@@ -19,7 +19,7 @@ DECLARED = re.compile(r"^( *)(?:(?:abbrev|unfoldable|opaque|pub|ruleset|instance
 RECORD = re.compile(r"^( *)(?:(?:abbrev|unfoldable|pub)\s+)*(record|data)\s+(\S+)")
 # Laws that would have the name of a definition in another file of their crate.
 APART = {"answers/specs/SaidLaws": ["packet-outcome"], "asking/specs/AskingLaws": ["exchange-outcome"], "index/specs/EntryLaws": ["entry-count", "entry-word"],
-         "promises/specs/RunHistoryLaws": ["reply-at"], "waits_laws/specs/FileSameLaws": ["same-line"]}
+         "promises/specs/RunHistoryLaws": ["reply-at"], "waits_laws/specs/FileSameLaws": ["same_line"]}
 
 
 def read(path):
