@@ -24,7 +24,7 @@ use Rattle.languages.specs.declared.Heard.TheVariants.{OfBench}
 use Rattle.pod_answers.specs.PodSaid.{pod_said}
 use Rattle.languages.specs.Heard.{heard_own, heard_as, heard, said_to}
 use Rattle.course.specs.Course.{told_text, answer_line}
-use Rattle.course.specs.CourseLaws.{silent_said, long_said}
+use Rattle.course.proofs.CourseLaws.{silent_said, long_said}
 use Rattle.said_laws.specs.SaidLengthLaws.{said_length, exchanged_length, pod_length, help_length}
 use Rattle.said_laws.specs.FitLineLaws.{board_fit, TalkFit, either_fit, talk_fit, pod_fit}
 use Rattle.said_laws.specs.PlainLaws.{plain_open, Spoken, board_spoken, exchange_spoken, pod_spoken, unclear_spoken, help_spoken, bye_spoken}

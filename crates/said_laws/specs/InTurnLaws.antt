@@ -14,7 +14,7 @@ use Rattle.answers.specs.declared.Bench.{Bench}
 use Rattle.answers.specs.Bench.{Left, left}
 use Rattle.languages.specs.declared.Language.{Language}
 use Rattle.course.specs.Course.{told, course, told_text, answer_line, answer_lines}
-use Rattle.course.specs.CourseLaws.{silent_said}
+use Rattle.course.proofs.CourseLaws.{silent_said}
 use Rattle.said_laws.specs.AnswerLaws.{one_line, one_answer}
 
 -- "`quit` .. ends the program": the lines that are read are those up to the first that quits, with it

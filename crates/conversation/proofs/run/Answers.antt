@@ -3,7 +3,7 @@ use native.Mathlib.Omega.{arith}
 use Rattle.course.specs.Course.{opening}
 use Rattle.console.specs.InputLines.{most_lines}
 use Rattle.console.specs.LinesServedLaws.{comes_to_begin}
-use Rattle.course.specs.CourseLaws.{line_comes, quit_comes, last_comes, none_comes}
+use Rattle.course.proofs.CourseLaws.{line_comes, quit_comes, last_comes, none_comes}
 use Rattle.conversation.proofs.run.Goals as goal
 
 pub loop-budget-init : goal.loop-budget-init

@@ -2,7 +2,7 @@ use lib.ListN.{length}
 use mathlib.Core.Path.{◌≡◌}
 use Rattle.course.specs.Course.{opening}
 use Rattle.console.specs.LineReading.{unread_of}
-use Rattle.course.specs.CourseLaws.{Came}
+use Rattle.course.proofs.CourseLaws.{Came}
 use Rattle.conversation.proofs.run.Given as goal
 
 abbrev pub invariant-loop-budget : goal.invariant-loop-budget

@@ -1,4 +1,4 @@
-use Rattle.course.specs.CourseLaws.{some_said, none_said}
+use Rattle.course.proofs.CourseLaws.{some_said, none_said}
 use Rattle.conversation.proofs.serve.Goals as goal
 
 -- src/lib.rt:137:9
