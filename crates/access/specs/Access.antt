@@ -1,10 +1,6 @@
 -- Packets (01): the memory access of READ, WRITE, DUMP and FILL, and the pointer.
-use Rattle.std.specs.Prelude.{ℕ, ◌+◌, ◌%◌, ◌^◌, List}
+use Rattle.std.specs.Prelude.{ℕ, ◌+◌, ◌%◌, ◌^◌, List, Err, Ok, Result, ⊤}
 use Rattle.memory.specs.declared.Size.{Size}
-use Rattle.memory.specs.declared.Fetch.{Fetch}
-use Rattle.memory.specs.declared.Fetch.TheVariants as fetch
-use Rattle.memory.specs.declared.Reach.{Reach}
-use Rattle.memory.specs.declared.Reach.TheVariants.{Whole, Short}
 use Rattle.memory.specs.Memory.{bytes, aligned, fetched, stored, reach}
 use Rattle.command.specs.declared.Command.{Command}
 use Rattle.command.specs.declared.Command.TheVariants.{Unknown, Nop, Load, Store, Show, Change}
@@ -18,13 +14,13 @@ abbrev pub past : Size → ℕ → ℕ
 past size address = (aligned size address + bytes size) % 2 ^ 32
 
 -- "An access with any byte beyond memory is a bus error and alters nothing"; [4] "shall also answer the lowest address of the access that isn't there"
-abbrev pub fetched_access : Size → ℕ → Fetch → Access
-fetched_access s past (fetch.Value v) = Fetched s v past
-fetched_access s past (fetch.Missing first) = Missing first
+abbrev pub fetched_access : Size → ℕ → Result ℕ ℕ → Access
+fetched_access s past (Ok v) = Fetched s v past
+fetched_access s past (Err first) = Missing first
 
-abbrev pub stored_access : ℕ → Reach → Access
-stored_access past Whole = Stored past
-stored_access past (Short first) = Missing first
+abbrev pub stored_access : ℕ → Result ⊤ ℕ → Access
+stored_access past (Ok _) = Stored past
+stored_access past (Err first) = Missing first
 
 abbrev pub fetching : List ℕ → Size → ℕ → Access
 fetching m s a = fetched_access s (past s a) (fetched m s a)

@@ -6,7 +6,7 @@ ghost use Rattle.access.specs.Access.{past, fetching, storing, start_of, access_
 ghost use Rattle.memory.specs.Memory.{stored};
 
 use command::{Base, Command};
-use memory::{Fetch, Reach, Size};
+use memory::Size;
 
 // What a command's access to memory found.
 #[derive(Clone, Copy)]
@@ -33,8 +33,8 @@ fn fetch_access(memory: &[u8], size: Size, address: u32) -> Access
 {
     let end = past_access(size, address);
     match memory::fetch_at(memory, size, address) {
-        Fetch::Value(value) => Access::Fetched(size, value, end),
-        Fetch::Missing(first) => Access::Missing(first),
+        Ok(value) => Access::Fetched(size, value, end),
+        Err(first) => Access::Missing(first),
     }
 }
 
@@ -42,8 +42,8 @@ fn store_access(memory: &mut [u8], size: Size, address: u32, value: u32) -> Acce
     ensures { (result ≡ storing memory.old size address) × (memory.new ≡ stored memory.old size address value) }
 {
     match memory::store_at(memory, size, address, value) {
-        Reach::Whole => Access::Stored(past_access(size, address)),
-        Reach::Short(first) => Access::Missing(first),
+        Ok(()) => Access::Stored(past_access(size, address)),
+        Err(first) => Access::Missing(first),
     }
 }
 

@@ -1,5 +1,6 @@
 -- What a line leaves of the bench (the desk's language, `stand_in`): the board, the place, how many bytes are lent, and memory.
-use Rattle.std.specs.Prelude.{ℕ, ◌%◌, List, ◌++◌, take, drop}
+use Rattle.std.specs.Prelude.{ℕ, ◌%◌, List, ◌++◌, take, drop, None, Option, Some}
+use Rattle.halting.specs.declared.Privilege.{Privilege}
 use Rattle.std.proofs.lemmas.List.Edits.{sets}
 use Rattle.board.specs.declared.Board.{Board}
 use Rattle.board.specs.declared.Place.{Place}
@@ -8,9 +9,7 @@ use Rattle.grounds.specs.Grounds.{if_accepted}
 use Rattle.board.specs.State.{State as PortState, state_of}
 use Rattle.step.specs.Step as port
 use Rattle.port.specs.Packet.{packet_verdict}
-use Rattle.halting.specs.declared.Mark.{Mark}
 use Rattle.trigger.specs.declared.Event.{Event}
-use Rattle.groups.specs.declared.Bus.TheVariants.{Idle, Carries}
 use Rattle.bus.specs.Events.{board_after_event, board_after_breakpoint}
 use Rattle.lent.specs.Lent.{zeros, bytes_put}
 use Rattle.board_lines.specs.declared.BoardLine.{BoardLine}
@@ -47,12 +46,12 @@ stepped word bench m =
     with_state bench (if_accepted (packet_verdict (port_state bench m) word) (port.stepped (port_state bench m) word) (port_state bench m))
 
 -- "`event PC` or `event PC ADDRESS ATTRIBUTE DATA`", and the mark of [6]
-abbrev pub start : ℕ → Mark → Event
-start pc mark = record { pc = pc; bus = Idle; mark = mark }
+abbrev pub start : ℕ → Option Privilege → Event
+start pc mark = record { pc = pc; bus = None; mark = mark }
 
-abbrev pub access : ℕ → ℕ → ℕ → ℕ → Mark → Event
+abbrev pub access : ℕ → ℕ → ℕ → ℕ → Option Privilege → Event
 access pc address attribute lanes mark =
-    record { pc = pc; bus = Carries (record { address = address; attribute = attribute % 256; lanes = lanes }); mark = mark }
+    record { pc = pc; bus = Some (record { address = address; attribute = attribute % 256; lanes = lanes }); mark = mark }
 
 abbrev pub seen : Event → Bench → Bench
 seen event bench = bench_of (board_after_event bench.board bench.place event) bench.place bench.lent

@@ -1,9 +1,7 @@
 -- What is said of what a line does (the desk's language, `stand_in`), and the promise of a line answered.
-use Rattle.std.specs.Prelude.{ℕ, ◌≡◌, Bool, cond, List, ◌++◌}
-use Rattle.grounds.specs.declared.Verdict.{Verdict}
-use Rattle.grounds.specs.declared.Verdict.TheVariants.{Accepted, Refused}
+use Rattle.std.specs.Prelude.{ℕ, ◌≡◌, Bool, cond, List, ◌++◌, Err, Ok, Result, ⊤}
+use Rattle.grounds.specs.declared.Ground.{Ground}
 use Rattle.step.specs.Step.{reply_now}
-use Rattle.port.specs.declared.Outcome.{Outcome}
 use Rattle.port.specs.Packet.{packet_verdict, answered}
 use Rattle.text.specs.Text.{ascii, Puts}
 use Rattle.text.specs.NumberText.{number_text}
@@ -14,9 +12,9 @@ use Rattle.answers.specs.declared.Answered.{Answered}
 use Rattle.answers.specs.Bench.{Left, port_state}
 
 -- "`made`, .. or `refused 2 at 0`"
-abbrev pub made_text : Verdict → List ℕ
-made_text Accepted = ascii "made"
-made_text (Refused why) = refused_text why
+abbrev pub made_text : Result ⊤ Ground → List ℕ
+made_text (Ok _) = ascii "made"
+made_text (Err why) = refused_text why
 
 -- "`memory N`"
 abbrev pub memory_text : ℕ → List ℕ
@@ -31,7 +29,7 @@ abbrev pub peeked_text : Bool → List ℕ → ℕ → ℕ → List ℕ
 peeked_text fitting m address n = cond fitting (peek_text m address n) unclear_text
 
 -- what a packet is answered by the port over what it is lent: the reply fixed by the state before, or the refusal
-abbrev pub packet_outcome : ℕ → Bench → List ℕ → Outcome
+abbrev pub packet_outcome : ℕ → Bench → List ℕ → Result ℕ Ground
 packet_outcome word bench m = answered (packet_verdict (port_state bench m) word) (reply_now bench.place)
 
 -- a line answered: what it leaves, and what is said, put at the front of the text

@@ -13,11 +13,9 @@ ghost use Rattle.lent.specs.Lent.{zeros, fits, bytes_put};
 ghost use Rattle.answers.specs.Bench.{access, bench_of, left, stepped, over_lent};
 ghost use Rattle.answers.specs.Said.{made_text, memory_text, bytes_put_text, peeked_text, packet_outcome, Answers};
 
+use halting::Privilege;
 use board::{Board, Place};
 use comparators::BusAccess;
-use grounds::Verdict;
-use groups::Bus;
-use halting::Mark;
 use refusal_text::{put_refusal, put_unclear};
 use trigger::Event;
 
@@ -73,11 +71,11 @@ pub fn make(w: u32, bench: Bench, text: &mut [u8]) -> Answered
     let board = made.board;
     let place = made.place;
     match verdict {
-        Verdict::Accepted => {
+        Ok(()) => {
             let end = text::put_text(text, 0, b"made");
             bench_after(board, place, bench.lent, end)
         }
-        Verdict::Refused(ground) => Answered {
+        Err(ground) => Answered {
             bench: bench,
             end: put_refusal(text, ground),
         },
@@ -199,12 +197,12 @@ pub fn tell_state(bench: Bench, text: &mut [u8]) -> Answered
     }
 }
 
-pub fn carrying(pc: u32, address: u32, attribute: u32, lanes: u32, mark: Mark) -> Event
+pub fn carrying(pc: u32, address: u32, attribute: u32, lanes: u32, mark: Option<Privilege>) -> Event
     ensures { result ≡ access pc address attribute lanes mark }
 {
     Event {
         pc: pc,
-        bus: Bus::Carries(BusAccess {
+        bus: Some(BusAccess {
             address: address,
             attribute: (attribute % 256) as u8,
             lanes: lanes,

@@ -7,18 +7,19 @@ ghost use Rattle.answers.specs.Bench.{over_lent};
 ghost use Rattle.answers.specs.Said.{Answers};
 ghost use Rattle.asking.specs.Asking.{exchanged, exchanged_text, exchange_said};
 
+use readings::Outcome;
+use grounds::Ground;
 use answers::{Answered, Bench};
-use exchange::Exchanged;
 use refusal_text::put_refusal;
 use request_text::put_exchange;
 use requests::Request;
 
-fn put_exchanged(text: &mut [u8], answer: Exchanged) -> usize
+fn put_exchanged(text: &mut [u8], answer: Result<(Outcome, u32), Ground>) -> usize
     ensures { Puts text.old 0 (exchanged_text answer) text.new result }
 {
     match answer {
-        Exchanged::Ended(outcome, packets) => put_exchange(text, outcome, packets),
-        Exchanged::Refused(ground) => put_refusal(text, ground),
+        Ok((outcome, packets)) => put_exchange(text, outcome, packets),
+        Err(ground) => put_refusal(text, ground),
     }
 }
 

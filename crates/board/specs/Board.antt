@@ -1,11 +1,10 @@
 -- The board and its parts (01): making a board.
-use Rattle.std.specs.Prelude.{ℕ, Bool, true, false, cond, [], ◌∷◌, leb, replicate, ◌≡◌}
+use Rattle.std.specs.Prelude.{ℕ, Bool, true, false, cond, [], ◌∷◌, leb, replicate, ◌≡◌, None, Result, ⊤}
+use Rattle.grounds.specs.declared.Ground.{Ground}
 use Rattle.grounds.specs.declared.Ground.TheVariants.{WaitTooLarge}
-use Rattle.grounds.specs.declared.Verdict.{Verdict}
 use Rattle.grounds.specs.Grounds.{check, judge, told}
 use Rattle.command.specs.Reply.{complete}
 use Rattle.board.specs.declared.Board.{Board}
-use Rattle.board.specs.declared.Fault.TheVariants.{NoFault}
 use Rattle.board.specs.declared.Place.{Place}
 use Rattle.board.specs.declared.Made.{Made}
 use Rattle.board.specs.declared.Phase.{Phase}
@@ -19,7 +18,7 @@ fresh_board w = record {
   status = record { halted = true; fof = false; trg = false; halt = false; bkpt = true; bstat = 0; sync = false };
   registers = record { general = replicate 16 0; control = replicate 10 0 };
   debug = record { csr = 0; baar = 0x05; aatr = 0x0005; tdr = 0; pbr = 0; pbmr = 0; abhr = 0; ablr = 0; dbr = 0; dbmr = 0 };
-  fault = NoFault;
+  fault = None;
 }
 
 unfoldable pub fresh_place : Place
@@ -33,7 +32,7 @@ at_rest (Waiting c left address value) = false
 at_rest (Upper low) = false
 
 -- "A board is made with a wait setting W from 0 to 15." "Order: making 2"
-abbrev pub making_verdict : ℕ → Verdict
+abbrev pub making_verdict : ℕ → Result ⊤ Ground
 making_verdict w = judge (check (leb w 15) WaitTooLarge ∷ [])
 
 -- what stands in where making is refused is the board of W = 0

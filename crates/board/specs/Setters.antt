@@ -1,10 +1,9 @@
 -- The board and its parts (01): each part with one field another. A new field of a struct is named here and where a fresh board is made.
-use Rattle.std.specs.Prelude.{ℕ, Bool, List}
+use Rattle.std.specs.Prelude.{ℕ, Bool, List, Option}
 use Rattle.board.specs.declared.Board.{Board}
 use Rattle.board.specs.declared.Status.{Status}
 use Rattle.board.specs.declared.Registers.{Registers}
 use Rattle.board.specs.declared.Debug.{Debug}
-use Rattle.board.specs.declared.Fault.{Fault}
 use Rattle.board.specs.declared.Place.{Place}
 use Rattle.board.specs.declared.Phase.{Phase}
 use Rattle.board.specs.declared.Chain.{Chain}
@@ -22,7 +21,7 @@ with_registers b r = record { w = b.w; status = b.status; registers = r; debug =
 abbrev pub with_debug : Board → Debug → Board
 with_debug b d = record { w = b.w; status = b.status; registers = b.registers; debug = d; fault = b.fault }
 
-abbrev pub with_fault : Board → Fault → Board
+abbrev pub with_fault : Board → Option ℕ → Board
 with_fault b f = record { w = b.w; status = b.status; registers = b.registers; debug = b.debug; fault = f }
 
 -- ---- its registers

@@ -7,7 +7,7 @@ ghost use Rattle.board.specs.State.{standing_of};
 ghost use Rattle.board.specs.Setters.{with_fault, place_with};
 
 use command::Command;
-use grounds::{Ground, Verdict};
+use grounds::Ground;
 
 // All that a bus event or the breakpoint input may change.
 #[derive(Clone, Copy)]
@@ -44,13 +44,6 @@ pub struct Debug {
     pub dbmr: u32,
 }
 
-// The lowest address that was not there at the last bus error of a memory command; none after a command word other than NOP.
-#[derive(Clone, Copy)]
-pub enum Fault {
-    NoFault,
-    FaultAt(u32),
-}
-
 // What all who talk to the board share.
 #[derive(Clone, Copy)]
 pub struct Board {
@@ -58,7 +51,7 @@ pub struct Board {
     pub status: Status,
     pub registers: Registers,
     pub debug: Debug,
-    pub fault: Fault,
+    pub fault: Option<u32>,
 }
 
 // The operand words taken, the last four, oldest first.
@@ -107,7 +100,7 @@ pub struct Standing {
 // Where the making is refused, a board of W = 0 stands in.
 #[derive(Clone, Copy)]
 pub struct Made {
-    pub verdict: Verdict,
+    pub verdict: Result<(), Ground>,
     pub board: Board,
     pub place: Place,
 }
@@ -142,7 +135,7 @@ fn new_board(w: u32) -> Board
             dbr: 0,
             dbmr: 0,
         },
-        fault: Fault::NoFault,
+        fault: None,
     }
 }
 
@@ -162,13 +155,13 @@ pub fn make(w: u32) -> Made
 {
     if w <= 15 {
         return Made {
-            verdict: Verdict::Accepted,
+            verdict: Ok(()),
             board: new_board(w),
             place: new_place(),
         };
     }
     Made {
-        verdict: Verdict::Refused(Ground::WaitTooLarge),
+        verdict: Err(Ground::WaitTooLarge),
         board: new_board(0),
         place: new_place(),
     }
@@ -184,7 +177,7 @@ pub fn standing_of(board: Board, place: Place) -> Standing
     }
 }
 
-pub fn set_fault(board: Board, fault: Fault) -> Board
+pub fn set_fault(board: Board, fault: Option<u32>) -> Board
     ensures { result ≡ with_fault board fault }
 {
     let status = board.status;

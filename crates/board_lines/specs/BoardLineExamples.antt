@@ -1,9 +1,8 @@
 -- Examples of the lines of `stand_in`, computed.
-use Rattle.std.specs.Prelude.{◌≡◌, refl}
+use Rattle.std.specs.Prelude.{◌≡◌, refl, None, Some}
 use Rattle.words.specs.LineWords.{ascii, is_gap, kind_of, lower}
 use Rattle.numbers.specs.Numbers.{digit, prefix_length, numeral}
 use Rattle.halting.specs.declared.Privilege.TheVariants.{User, Supervisor}
-use Rattle.halting.specs.declared.Mark.TheVariants.{Absent, Halt}
 use Rattle.board_lines.specs.declared.BoardLine.TheVariants.{Nothing, Make, Memory, Bytes, Packet, Event, EventWithAccess, Peek, State, Unclear}
 use Rattle.board_lines.specs.BoardLines.{board_line, board_words, board_of_none, board_of_one, board_of_two, hex_line}
 use Rattle.board_lines.specs.EventLines.{halt_form, event_line}
@@ -88,7 +87,7 @@ pub half_a_byte : board_line (ascii "bytes 10 ABC") ≡ Unclear
 unfolding board_line kind_of is_gap lower board_words numeral prefix_length digit board_of_none board_of_one board_of_two hex_line
 half_a_byte = refl
 
-pub event_with_access : board_line (ascii "event 4 8 FF 0") ≡ EventWithAccess 4 8 255 0 Absent
+pub event_with_access : board_line (ascii "event 4 8 FF 0") ≡ EventWithAccess 4 8 255 0 None
 unfolding board_line kind_of is_gap lower board_words numeral prefix_length digit event_line
 event_with_access = refl
 
@@ -96,11 +95,11 @@ pub attribute_of_nine_bits : board_line (ascii "event 4 8 100 0") ≡ Unclear
 unfolding board_line kind_of is_gap lower board_words numeral prefix_length digit event_line
 attribute_of_nine_bits = refl
 
-pub event_that_halts : board_line (ascii "event 1000 halt user") ≡ Event 0x1000 (Halt User)
+pub event_that_halts : board_line (ascii "event 1000 halt user") ≡ Event 0x1000 (Some User)
 unfolding board_line kind_of is_gap lower board_words numeral prefix_length digit halt_form event_line
 event_that_halts = refl
 
-pub access_that_halts : board_line (ascii "EVENT 0x4 8 FF 0\tHalt  SUPERVISOR ") ≡ EventWithAccess 4 8 255 0 (Halt Supervisor)
+pub access_that_halts : board_line (ascii "EVENT 0x4 8 FF 0\tHalt  SUPERVISOR ") ≡ EventWithAccess 4 8 255 0 (Some Supervisor)
 unfolding board_line kind_of is_gap lower board_words numeral prefix_length digit halt_form event_line
 access_that_halts = refl
 

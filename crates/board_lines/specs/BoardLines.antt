@@ -1,9 +1,7 @@
 -- The desk's language: the lines of `stand_in`.
-use Rattle.std.specs.Prelude.{ℕ, ◌-◌, ◌/◌, ◌%◌, Bool, cond, ◌&&◌, List, [], ◌∷◌, leb, eqb, length}
+use Rattle.std.specs.Prelude.{ℕ, ◌-◌, ◌/◌, ◌%◌, Bool, cond, ◌&&◌, List, [], ◌∷◌, leb, eqb, length, None, Option, Some}
 use Rattle.words.specs.declared.LineKind.{LineKind}
 use Rattle.words.specs.declared.LineKind.TheVariants.{Silent, Clear, TooLong}
-use Rattle.numbers.specs.declared.Numeral.{Numeral}
-use Rattle.numbers.specs.declared.Numeral.TheVariants.{Value, NoNumber}
 use Rattle.numbers.specs.declared.Numbers.{Numbers}
 use Rattle.numbers.specs.declared.Numbers.TheVariants.{Zero, One, Two, Three, Four, NotNumbers}
 use Rattle.words.specs.LineWords.{ascii, kind_of, words, last_end}
@@ -51,9 +49,9 @@ abbrev pub is_hex : List ℕ → Bool
 is_hex hex = leb 2 (length hex) && (eqb (length hex % 2) 0 && all_digits hex)
 
 -- the digits are the last word; "In HEX of `bytes` there is no `0x`": its `x` is no digit
-unfoldable pub hex_line : ℕ → Numeral → List ℕ → BoardLine
-hex_line close (Value a) hex = cond (is_hex hex) (Bytes a (close - length hex) (length hex / 2)) Unclear
-hex_line close NoNumber hex = Unclear
+unfoldable pub hex_line : ℕ → Option ℕ → List ℕ → BoardLine
+hex_line close (Some a) hex = cond (is_hex hex) (Bytes a (close - length hex) (length hex / 2)) Unclear
+hex_line close None hex = Unclear
 
 -- `bytes A HEX`, in a line whose last word ends there
 abbrev pub bytes_line : ℕ → List (List ℕ) → BoardLine

@@ -1,22 +1,21 @@
 -- The desk's language: `event` lines, with the mark that [6] adds to them.
-use Rattle.std.specs.Prelude.{ℕ, cond, List, [], ◌∷◌, leb}
+use Rattle.std.specs.Prelude.{ℕ, cond, List, [], ◌∷◌, leb, None, Option, Some}
+use Rattle.halting.specs.declared.Privilege.{Privilege}
 use Rattle.words.specs.LineWords.{ascii, same}
 use Rattle.words.specs.NameTable.{row, found}
 use Rattle.numbers.specs.declared.Numbers.{Numbers}
 use Rattle.numbers.specs.declared.Numbers.TheVariants.{Zero, One, Two, Three, Four, NotNumbers}
 use Rattle.numbers.specs.Numbers.{numeral, more}
 use Rattle.halting.specs.declared.Privilege.TheVariants.{User, Supervisor}
-use Rattle.halting.specs.declared.Mark.{Mark}
-use Rattle.halting.specs.declared.Mark.TheVariants.{Absent, Halt}
 use Rattle.board_lines.specs.declared.BoardLine.{BoardLine}
 use Rattle.board_lines.specs.declared.BoardLine.TheVariants.{Event, EventWithAccess, Unclear}
 
 -- "ATTRIBUTE one of 8" bits
-abbrev pub access_line : ℕ → ℕ → ℕ → ℕ → Mark → BoardLine
+abbrev pub access_line : ℕ → ℕ → ℕ → ℕ → Option Privilege → BoardLine
 access_line pc address attribute lanes mark = cond (leb attribute 0xFF) (EventWithAccess pc address attribute lanes mark) Unclear
 
 -- "`event PC` or `event PC ADDRESS ATTRIBUTE DATA`", and its mark
-abbrev pub event_form : Numbers → Mark → BoardLine
+abbrev pub event_form : Numbers → Option Privilege → BoardLine
 event_form Zero mark = Unclear
 event_form (One pc) mark = Event pc mark
 event_form (Two a b) mark = Unclear
@@ -27,8 +26,8 @@ event_form NotNumbers mark = Unclear
 -- "`event PC .. halt user` or `.. halt supervisor`"
 unfoldable pub halt_form : Numbers → List ℕ → BoardLine
 halt_form before privilege =
-    found Unclear privilege (row (ascii "user") (event_form before (Halt User))
-    ∷ row (ascii "supervisor") (event_form before (Halt Supervisor))
+    found Unclear privilege (row (ascii "user") (event_form before (Some User))
+    ∷ row (ascii "supervisor") (event_form before (Some Supervisor))
     ∷ [])
 
 -- "at the end of an event line": the words behind `halt`
@@ -39,7 +38,7 @@ halt_line before (privilege ∷ word ∷ words) = Unclear
 
 -- numbers up to `halt` or up to the end of the line
 abbrev pub event_from : Numbers → List (List ℕ) → BoardLine
-event_from before [] = event_form before Absent
+event_from before [] = event_form before None
 event_from before (word ∷ words) = cond (same word (ascii "halt")) (halt_line before words) (event_from (more before (numeral word)) words)
 
 -- the words behind `event`

@@ -4,10 +4,10 @@ ghost use Rattle.words.specs.LineWords.{words_from};
 ghost use Rattle.board_lines.specs.EventLines.{access_line, event_form, halt_form, halt_line, event_line};
 
 use crate::BoardLine;
-use halting::{Mark, Privilege};
+use halting::Privilege;
 use numbers::Numbers;
 
-fn access_line(pc: u32, address: u32, attribute: u32, lanes: u32, mark: Mark) -> BoardLine
+fn access_line(pc: u32, address: u32, attribute: u32, lanes: u32, mark: Option<Privilege>) -> BoardLine
     ensures { result ≡ access_line pc address attribute lanes mark }
 {
     if attribute <= 0xFF {
@@ -16,7 +16,7 @@ fn access_line(pc: u32, address: u32, attribute: u32, lanes: u32, mark: Mark) ->
     BoardLine::Unclear
 }
 
-fn event_form(numbers: Numbers, mark: Mark) -> BoardLine
+fn event_form(numbers: Numbers, mark: Option<Privilege>) -> BoardLine
     ensures { result ≡ event_form numbers mark }
 {
     match numbers {
@@ -35,10 +35,10 @@ fn halt_form(before: Numbers, privilege: &[u8]) -> BoardLine
     ensures { result ≡ halt_form before privilege.now }
 {
     if words::is_same(privilege, b"user") {
-        return event_form(before, Mark::Halt(Privilege::User));
+        return event_form(before, Some(Privilege::User));
     }
     if words::is_same(privilege, b"supervisor") {
-        return event_form(before, Mark::Halt(Privilege::Supervisor));
+        return event_form(before, Some(Privilege::Supervisor));
     }
     BoardLine::Unclear
 }
@@ -68,7 +68,7 @@ pub fn event_line(line: &[u8], from: usize) -> BoardLine
     loop {
         let start = words::word_start(line, at);
         if line.len() <= start {
-            return event_form(before, Mark::Absent);
+            return event_form(before, None);
         }
         let stop = words::word_end(line, start);
         if words::is_same(&line[start..stop], b"halt") {

@@ -6,8 +6,8 @@ ghost use Rattle.words.specs.LineWords.{words, words_from, last_end};
 ghost use Rattle.board_lines.specs.BoardLines.{memory_line, peek_line, board_of_none, board_of_one, board_of_two};
 ghost use Rattle.board_lines.specs.BoardLines.{board_form, is_hex, hex_line, bytes_line, board_words, board_line};
 
-use halting::Mark;
-use numbers::{Numbers, Numeral};
+use halting::Privilege;
+use numbers::Numbers;
 use words::LineKind;
 
 mod events;
@@ -22,9 +22,9 @@ pub enum BoardLine {
     // The address, where the digits start in the line, and the count of bytes.
     Bytes(u32, usize, usize),
     Packet(u32),
-    Event(u32, Mark),
+    Event(u32, Option<Privilege>),
     // The PC, the access (address, attribute and lanes), and the mark.
-    EventWithAccess(u32, u32, u32, u32, Mark),
+    EventWithAccess(u32, u32, u32, u32, Option<Privilege>),
     Breakpoint,
     Peek(u32, u32),
     State,
@@ -114,11 +114,11 @@ fn is_hex(digits: &[u8]) -> bool
 }
 
 // The digits are the last word of the line, which ends at `close`.
-fn hex_line(close: usize, address: Numeral, digits: &[u8]) -> BoardLine
+fn hex_line(close: usize, address: Option<u32>, digits: &[u8]) -> BoardLine
     ensures { result ≡ hex_line close address digits.now }
 {
     match address {
-        Numeral::Value(a) => {
+        Some(a) => {
             if !is_hex(digits) {
                 return BoardLine::Unclear;
             }
@@ -128,7 +128,7 @@ fn hex_line(close: usize, address: Numeral, digits: &[u8]) -> BoardLine
             }
             BoardLine::Bytes(a, 0, count / 2)
         }
-        Numeral::NoNumber => BoardLine::Unclear,
+        None => BoardLine::Unclear,
     }
 }
 

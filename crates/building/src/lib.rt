@@ -12,13 +12,6 @@ use grounds::Ground;
 use memory::Size;
 use requests::Request;
 
-// What building answers: the words now at the front of the buffer.
-#[derive(Clone, Copy)]
-pub enum Built {
-    Words(usize),
-    Refused(Ground),
-}
-
 fn size_code(size: Size) -> u32
     ensures { result ≡ size_code size }
 {
@@ -151,16 +144,16 @@ fn put_words(words: &mut [u32], request: Request)
 }
 
 // The built words stand at the front; the words beyond them stay, and where it is refused all do.
-pub fn build(request: Request, words: &mut [u32]) -> Built
+pub fn build(request: Request, words: &mut [u32]) -> Result<usize, Ground>
     ensures { BuildingMeets request words.old result words.new }
 {
     if requests::is_in_range(request) {
         let count = word_count(request);
         if count <= words.len() {
             put_words(words, request);
-            return Built::Words(count);
+            return Ok(count);
         }
-        return Built::Refused(Ground::BufferTooShort);
+        return Err(Ground::BufferTooShort);
     }
-    Built::Refused(Ground::RequestOutOfRange)
+    Err(Ground::RequestOutOfRange)
 }

@@ -1,5 +1,5 @@
 -- Laws of TDR with one ED bit clear ([1] of 02): where that comparator drops out and another is set, an event fires the level that it fires anyway.
-use Rattle.std.specs.Prelude.{ℕ, ◌+◌, ◌-◌, ◌^◌, ◌≡◌, refl, true, false}
+use Rattle.std.specs.Prelude.{ℕ, ◌+◌, ◌-◌, ◌^◌, ◌≡◌, refl, true, false, None, Option, Some}
 use Rattle.std.proofs.Common.{sym, ap, ◌∙◌}
 use Rattle.std.proofs.Math.Bool.{and-true, and-false}
 use Rattle.std.specs.Int.Bits.{bit_and}
@@ -15,8 +15,6 @@ use Rattle.comparators.specs.LaneLaws.{and_bit}
 use Rattle.comparators.specs.Comparators.{Ed, lanes_of, comparator}
 use Rattle.comparators.specs.DroppedLaws.{bit_of, is_set, without}
 use Rattle.comparators.specs.Comparators.Ed.{EDLW, EDWL, EDWU, EDLL, EDLM, EDUM, EDUU}
-use Rattle.groups.specs.declared.Bus.{Bus}
-use Rattle.groups.specs.declared.Bus.TheVariants.{Idle, Carries}
 use Rattle.groups.specs.Groups.{pc_group, address_matches, attribute_agrees, address_holds, address_group}
 use Rattle.trigger.specs.declared.Event.{Event}
 use Rattle.trigger.specs.Levels.{level_of, level_one, level_two}
@@ -53,10 +51,10 @@ abbrev pub tdr_loaded : ℕ → Debug → Debug
 tdr_loaded tdr d = debug_loaded (debug_number Tdr) tdr d
 
 -- a level, once it is given, does not look at TDR
-address_but_tdr : (level : Level) (d : Debug) (tdr : ℕ) (bus : Bus) → address_holds level (tdr_loaded tdr d) bus ≡ address_holds level d bus
+address_but_tdr : (level : Level) (d : Debug) (tdr : ℕ) (bus : Option BusAccess) → address_holds level (tdr_loaded tdr d) bus ≡ address_holds level d bus
 unfolding debug_loaded address_matches attribute_agrees comparator
-address_but_tdr level d tdr Idle = refl
-address_but_tdr level d tdr (Carries access) = refl
+address_but_tdr level d tdr None = refl
+address_but_tdr level d tdr (Some access) = refl
 
 fires_but_tdr : (level : Level) (d : Debug) (tdr : ℕ) (event : Event) → fires level (tdr_loaded tdr d) event ≡ fires level d event
 unfolding debug_loaded fires address_group pc_group
@@ -74,7 +72,7 @@ module _
     (bstat : ℕ)
     (d : Debug)
     (event : Event)
-    (dropped : (access : BusAccess) → event.bus ≡ Carries access → carries_all (lanes_of c) access ≡ false)
+    (dropped : (access : BusAccess) → event.bus ≡ Some access → carries_all (lanes_of c) access ≡ false)
     (apart : bit_of c ≡ bit_of other → ⊥)
   where
     like : (level : Level) → is_set other level ≡ true → fires (without c level) d event ≡ fires level d event

@@ -1,17 +1,16 @@
 -- Events and firing (01): the answers on paper, each with its refusal number.
-use Rattle.std.specs.Prelude.{ℕ, Bool, true, false, List, [], ◌∷◌}
+use Rattle.std.specs.Prelude.{ℕ, Bool, true, false, List, [], ◌∷◌, Err, None, Ok, Option, Result, Some}
+use Rattle.firing.specs.declared.Pressed.{Pressed}
+use Rattle.firing.specs.declared.Seen.{Seen}
+use Rattle.grounds.specs.declared.Ground.{Ground}
 use Rattle.grounds.specs.Grounds.{Refusal, refusal_of, no_refusal}
 use Rattle.halting.specs.declared.Halting.{Halting}
 use Rattle.halting.specs.declared.Halting.TheVariants.{NoHalt, Halts, Ignored}
-use Rattle.firing.specs.declared.Captured.{Captured}
-use Rattle.firing.specs.declared.Captured.TheVariants.{Nothing, Pc}
-use Rattle.bus.specs.declared.EventOutcome as events
-use Rattle.bus.specs.declared.BreakpointOutcome as breakpoints
 
 -- the PC handed out, or none
-abbrev pub told_captured : Captured → List ℕ
-told_captured Nothing = []
-told_captured (Pc pc) = pc ∷ []
+abbrev pub told_captured : Option ℕ → List ℕ
+told_captured None = []
+told_captured (Some pc) = pc ∷ []
 
 -- [6] where HALT "halts nothing", "the answer says so"; of an event without a mark nothing is said of it
 abbrev pub told_halting : Halting → List Bool
@@ -28,9 +27,9 @@ pub record EventTold : Type 0 where
   pub captured : List ℕ
   pub ignored : List Bool
 
-abbrev pub told_event : events.EventOutcome → EventTold
-told_event (events.TheVariants.Refused g) = record { refusal = refusal_of g; level = 0; halted = false; interrupt = false; captured = []; ignored = [] }
-told_event (events.TheVariants.Taken s) = record {
+abbrev pub told_event : Result Seen Ground → EventTold
+told_event (Err g) = record { refusal = refusal_of g; level = 0; halted = false; interrupt = false; captured = []; ignored = [] }
+told_event (Ok s) = record {
   refusal = no_refusal;
   level = s.level;
   halted = s.halted;
@@ -45,6 +44,6 @@ pub record BreakpointTold : Type 0 where
   pub halted : Bool
   pub interrupt : Bool
 
-abbrev pub told_breakpoint : breakpoints.BreakpointOutcome → BreakpointTold
-told_breakpoint (breakpoints.TheVariants.Refused g) = record { refusal = refusal_of g; halted = false; interrupt = false }
-told_breakpoint (breakpoints.TheVariants.Taken p) = record { refusal = no_refusal; halted = p.halted; interrupt = p.interrupt }
+abbrev pub told_breakpoint : Result Pressed Ground → BreakpointTold
+told_breakpoint (Err g) = record { refusal = refusal_of g; halted = false; interrupt = false }
+told_breakpoint (Ok p) = record { refusal = no_refusal; halted = p.halted; interrupt = p.interrupt }

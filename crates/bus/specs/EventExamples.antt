@@ -1,5 +1,5 @@
 -- What the desk checks by eye (01): P4 and P5.
-use Rattle.std.specs.Prelude.{ℕ, ◌%◌, ◌≡◌, refl, Bool, true, false, List, [], ◌∷◌, eqb, leb}
+use Rattle.std.specs.Prelude.{ℕ, ◌%◌, ◌≡◌, refl, Bool, true, false, List, [], ◌∷◌, eqb, leb, None, Some}
 use Rattle.std.proofs.Common.{sym, ap, ◌∙◌, subst, eq-eqb}
 use Rattle.std.specs.Int.Bits.{bit_or}
 use Rattle.command.specs.declared.DebugRegister.{DebugRegister}
@@ -13,10 +13,8 @@ use Rattle.ranges.specs.Ranges.{in_range, bstat_in_range}
 use Rattle.board.specs.Setters.{with_status, with_debug, with_halted, with_trg, with_bkpt, with_bstat}
 use Rattle.csr.specs.Csr.{csr_value}
 use Rattle.registers.specs.Registers.{board_after, debug_loaded, debug_written}
-use Rattle.halting.specs.declared.Mark.TheVariants.{Absent}
 use Rattle.halting.specs.Halting.{halting}
 use Rattle.trigger.specs.declared.Event.{Event}
-use Rattle.groups.specs.declared.Bus.TheVariants.{Idle, Carries}
 use Rattle.comparators.specs.Masks.{agree}
 use Rattle.trigger.specs.Levels.{level_of}
 use Rattle.comparators.specs.Comparators.{data_enabled}
@@ -53,10 +51,10 @@ abbrev p4_settings : List Setting
 p4_settings = setting Pbr 0x1000 ∷ setting Pbmr 0xF ∷ setting Tdr 0x40002002 ∷ []
 
 abbrev pub p4_outside : Event
-p4_outside = record { pc = 0x1010; bus = Idle; mark = Absent }
+p4_outside = record { pc = 0x1010; bus = None; mark = None }
 
 abbrev pub p4_inside : Event
-p4_inside = record { pc = 0x100E; bus = Idle; mark = Absent }
+p4_inside = record { pc = 0x100E; bus = None; mark = None }
 
 abbrev pub p4_csr : ℕ
 p4_csr = 0x24100000
@@ -133,7 +131,7 @@ p5_set_lem w pbr ablr = refl
 
 -- "an event with PC equal to PBR, address equal to ABLR, attribute 0x05"
 abbrev pub p5_event : ℕ → ℕ → ℕ → Event
-p5_event pbr ablr lanes = record { pc = pbr; bus = Carries (record { address = ablr; attribute = 0x05; lanes = lanes }); mark = Absent }
+p5_event pbr ablr lanes = record { pc = pbr; bus = Some (record { address = ablr; attribute = 0x05; lanes = lanes }); mark = None }
 
 self : (n : ℕ) → eqb n n ≡ true
 self n = eq-eqb n n refl

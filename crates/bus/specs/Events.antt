@@ -1,21 +1,17 @@
 -- Events and firing (01): the promises of the event and of the breakpoint input, refusals in their order.
-use Rattle.std.specs.Prelude.{◌%◌, ◌≡◌, Bool, false, not, [], ◌∷◌, eqb}
+use Rattle.std.specs.Prelude.{◌%◌, ◌≡◌, Bool, false, not, [], ◌∷◌, eqb, Err, None, Ok, Option, Result, Some, ⊤}
+use Rattle.comparators.specs.declared.BusAccess.{BusAccess}
+use Rattle.grounds.specs.declared.Ground.{Ground}
 use Rattle.grounds.specs.declared.Ground.TheVariants.{EventWhileHalted, OddPc, ReservedSize, StateOutOfRange}
-use Rattle.grounds.specs.declared.Verdict.{Verdict}
-use Rattle.grounds.specs.declared.Verdict.TheVariants.{Accepted, Refused}
 use Rattle.grounds.specs.Grounds.{check, judge, if_accepted}
 use Rattle.board.specs.declared.Board.{Board}
 use Rattle.board.specs.declared.Place.{Place}
 use Rattle.ranges.specs.Ranges.{in_range}
 use Rattle.board.specs.Setters.{with_status}
-use Rattle.groups.specs.declared.Bus.{Bus}
-use Rattle.groups.specs.declared.Bus.TheVariants.{Idle, Carries}
 use Rattle.trigger.specs.declared.Event.{Event}
 use Rattle.comparators.specs.Lanes.{size_field}
 use Rattle.firing.specs.declared.Seen.{Seen}
 use Rattle.firing.specs.declared.Pressed.{Pressed}
-use Rattle.bus.specs.declared.EventOutcome as events
-use Rattle.bus.specs.declared.BreakpointOutcome as breakpoints
 use Rattle.bus.specs.declared.EventAnswer.{EventAnswer}
 use Rattle.bus.specs.declared.BreakpointAnswer.{BreakpointAnswer}
 use Rattle.firing.specs.Firing.{firing, seen, status_after}
@@ -23,12 +19,12 @@ use Rattle.firing.specs.Breakpoint.{pressed, status_pressed}
 use Rattle.bus.specs.EventAnswers.{told_event, told_breakpoint}
 
 -- "an access whose size field is 11"
-abbrev pub reserved_size : Bus → Bool
-reserved_size Idle = false
-reserved_size (Carries access) = eqb (size_field access) 3
+abbrev pub reserved_size : Option BusAccess → Bool
+reserved_size None = false
+reserved_size (Some access) = eqb (size_field access) 3
 
 -- "events 12, 4, 5, 6"
-unfoldable pub event_verdict : Board → Place → Event → Verdict
+unfoldable pub event_verdict : Board → Place → Event → Result ⊤ Ground
 event_verdict b p event =
     judge
     (check (in_range b p) StateOutOfRange
@@ -38,26 +34,26 @@ event_verdict b p event =
     ∷ [])
 
 -- "the breakpoint input 12"
-unfoldable pub breakpoint_verdict : Board → Place → Verdict
+unfoldable pub breakpoint_verdict : Board → Place → Result ⊤ Ground
 breakpoint_verdict b p = judge (check (in_range b p) StateOutOfRange ∷ [])
 
 -- "A refusal returns its number"
-abbrev pub event_outcome_by : Verdict → Seen → events.EventOutcome
-event_outcome_by Accepted s = events.TheVariants.Taken s
-event_outcome_by (Refused g) s = events.TheVariants.Refused g
+abbrev pub event_outcome_by : Result ⊤ Ground → Seen → Result Seen Ground
+event_outcome_by (Ok _) s = Ok s
+event_outcome_by (Err g) s = Err g
 
-abbrev pub breakpoint_outcome_by : Verdict → Pressed → breakpoints.BreakpointOutcome
-breakpoint_outcome_by Accepted p = breakpoints.TheVariants.Taken p
-breakpoint_outcome_by (Refused g) p = breakpoints.TheVariants.Refused g
+abbrev pub breakpoint_outcome_by : Result ⊤ Ground → Pressed → Result Pressed Ground
+breakpoint_outcome_by (Ok _) p = Ok p
+breakpoint_outcome_by (Err g) p = Err g
 
-abbrev pub event_outcome : Board → Place → Event → events.EventOutcome
+abbrev pub event_outcome : Board → Place → Event → Result Seen Ground
 event_outcome b p event = event_outcome_by (event_verdict b p event) (seen b.status b.debug event (firing b.status b.debug event))
 
 abbrev pub board_after_event : Board → Place → Event → Board
 board_after_event b p event =
     if_accepted (event_verdict b p event) (with_status b (status_after b.status b.debug event (firing b.status b.debug event))) b
 
-abbrev pub breakpoint_outcome : Board → Place → breakpoints.BreakpointOutcome
+abbrev pub breakpoint_outcome : Board → Place → Result Pressed Ground
 breakpoint_outcome b p = breakpoint_outcome_by (breakpoint_verdict b p) (pressed b.status b.debug)
 
 abbrev pub board_after_breakpoint : Board → Place → Board

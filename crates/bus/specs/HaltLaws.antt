@@ -1,7 +1,7 @@
 -- Laws of HALT ([6] of 02) at an event: what a mark does not touch, what halts the processor, what sets CSR[HALT], and what clears it.
-use Rattle.std.specs.Prelude.{ℕ, ◌≡◌, refl, false, ◌||◌}
-use Rattle.grounds.specs.declared.Verdict.{Verdict}
-use Rattle.grounds.specs.declared.Verdict.TheVariants.{Accepted, Refused}
+use Rattle.std.specs.Prelude.{ℕ, ◌≡◌, refl, false, ◌||◌, Err, Ok, Option, Result, ⊤}
+use Rattle.halting.specs.declared.Privilege.{Privilege}
+use Rattle.grounds.specs.declared.Ground.{Ground}
 use Rattle.command.specs.Command.{rdmreg, go}
 use Rattle.board.specs.declared.Board.{Board}
 use Rattle.board.specs.declared.Place.{Place}
@@ -9,7 +9,6 @@ use Rattle.board.specs.declared.Status.{Status}
 use Rattle.board.specs.declared.Debug.{Debug}
 use Rattle.board.specs.Setters.{with_status, with_halted, with_halt}
 use Rattle.registers.specs.Registers.{board_after}
-use Rattle.halting.specs.declared.Mark.{Mark}
 use Rattle.trigger.specs.declared.Event.{Event}
 use Rattle.trigger.specs.Fired.{fires, fired_level}
 use Rattle.firing.specs.Firing.{firing, ssm, halt_of, halted_itself, seen, status_after}
@@ -17,7 +16,7 @@ use Rattle.bus.specs.EventAnswers.{told_halting, EventTold, told_event}
 use Rattle.bus.specs.Events.{event_verdict, event_outcome, board_after_event}
 
 -- the event with another mark, or with none
-abbrev pub marked : Mark → Event → Event
+abbrev pub marked : Option Privilege → Event → Event
 marked m event = record { pc = event.pc; bus = event.bus; mark = m }
 
 abbrev told : Board → Place → Event → EventTold
@@ -36,21 +35,21 @@ pub record SameBut (b : Board) (p : Place) (event other : Event) : Type 0 where
       ≡ with_status (board_after_event b p other)
       (with_halt (with_halted (board_after_event b p other).status (board_after_event b p event).status.halted) (board_after_event b p event).status.halt)
 
-same_verdict : (b : Board) (p : Place) (event : Event) (m : Mark) → event_verdict b p (marked m event) ≡ event_verdict b p event
+same_verdict : (b : Board) (p : Place) (event : Event) (m : Option Privilege) → event_verdict b p (marked m event) ≡ event_verdict b p event
 unfolding event_verdict
 same_verdict b p event m = refl
 
-same_firing : (s : Status) (d : Debug) (event : Event) (m : Mark) → firing s d (marked m event) ≡ firing s d event
+same_firing : (s : Status) (d : Debug) (event : Event) (m : Option Privilege) → firing s d (marked m event) ≡ firing s d event
 unfolding firing fired_level fires
 same_firing s d event m = refl
 
-pub same_with_any_mark : (b : Board) (p : Place) (event : Event) (m : Mark) → SameBut b p (marked m event) event
+pub same_with_any_mark : (b : Board) (p : Place) (event : Event) (m : Option Privilege) → SameBut b p (marked m event) event
 unfolding seen status_after
 same_with_any_mark b p event m = by_verdict (event_verdict b p event) refl (same_verdict b p event m) (same_firing b.status b.debug event m)
   where
-    by_verdict : (v : Verdict) → event_verdict b p event ≡ v → event_verdict b p (marked m event) ≡ event_verdict b p event
+    by_verdict : (v : Result ⊤ Ground) → event_verdict b p event ≡ v → event_verdict b p (marked m event) ≡ event_verdict b p event
         → firing b.status b.debug (marked m event) ≡ firing b.status b.debug event → SameBut b p (marked m event) event
-    by_verdict Accepted e verdict fired = record {
+    by_verdict (Ok _) e verdict fired = record {
       refusal = rw (verdict, e);
       level = rw (verdict, e, fired);
       interrupt = rw (verdict, e, fired);
@@ -59,7 +58,7 @@ same_with_any_mark b p event m = by_verdict (event_verdict b p event) refl (same
       bstat = rw (verdict, e, fired);
       board = rw (verdict, e, fired);
     }
-    by_verdict (Refused g) e verdict fired = record {
+    by_verdict (Err g) e verdict fired = record {
       refusal = rw (verdict, e);
       level = rw (verdict, e);
       interrupt = rw (verdict, e);
@@ -81,7 +80,7 @@ pub record HaltedBy (b : Board) (p : Place) (event : Event) : Type 0 where
   pub trg : (board_after_event b p event).status.trg ≡ (b.status.trg || (firing b.status b.debug event).halts)
   pub bkpt : (board_after_event b p event).status.bkpt ≡ b.status.bkpt
 
-pub halting_of_event : (b : Board) (p : Place) (event : Event) → event_verdict b p event ≡ Accepted → HaltedBy b p event
+pub halting_of_event : (b : Board) (p : Place) (event : Event) → event_verdict b p event ≡ Ok tt → HaltedBy b p event
 unfolding seen status_after
 halting_of_event b p event accepted =
     record { halted = rw accepted; stops = rw accepted; ignored = rw accepted; halt = rw accepted; trg = rw accepted; bkpt = rw accepted }

@@ -1,5 +1,5 @@
 -- What is computed of [1] of 02: the technician's case, and a byte that is on the lane.
-use Rattle.std.specs.Prelude.{ℕ, ◌%◌, ◌<◌, ◌≡◌, true, false, List, [], ◌∷◌, eqb, leb}
+use Rattle.std.specs.Prelude.{ℕ, ◌%◌, ◌<◌, ◌≡◌, true, false, List, [], ◌∷◌, eqb, leb, None, Some}
 use Rattle.std.proofs.Common.{◌∙◌, arith}
 use Rattle.std.proofs.Math.Bool.{and-false}
 use Rattle.std.specs.Int.Bits.{bit_and}
@@ -11,10 +11,8 @@ use Rattle.board.specs.Board.{fresh_board, fresh_place}
 use Rattle.board.specs.RegisterBits.{bit}
 use Rattle.ranges.specs.Ranges.{in_range, bstat_in_range}
 use Rattle.registers.specs.Registers.{debug_loaded, debug_written}
-use Rattle.halting.specs.declared.Mark.TheVariants.{Absent}
 use Rattle.halting.specs.Halting.{halting}
 use Rattle.trigger.specs.declared.Event.{Event}
-use Rattle.groups.specs.declared.Bus.TheVariants.{Carries}
 use Rattle.comparators.specs.Masks.{agree}
 use Rattle.comparators.specs.MaskLaws.{bits_then_agree}
 use Rattle.comparators.specs.Lanes.{byte_lanes, carried_lanes, carries_all}
@@ -34,7 +32,7 @@ abbrev pub technician : ℕ → List Setting
 technician address = setting Dbr 0 ∷ setting Dbmr 0 ∷ setting Ablr address ∷ setting Aatr 0x00A5 ∷ setting Tdr 0x40002204 ∷ []
 
 abbrev pub byte_read : ℕ → ℕ → ℕ → Event
-byte_read pc address lanes = record { pc = pc; bus = Carries (record { address = address; attribute = 0xA5; lanes = lanes }); mark = Absent }
+byte_read pc address lanes = record { pc = pc; bus = Some (record { address = address; attribute = 0xA5; lanes = lanes }); mark = None }
 
 abbrev board : ℕ → ℕ → Board
 board w address = after_settings (technician address) (fresh_board w)

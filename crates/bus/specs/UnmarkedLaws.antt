@@ -1,18 +1,15 @@
 -- [6] "a mark absent means what 01 says today": 01's answer and board as they were defined before the request, and that an event without a mark has them.
-use Rattle.std.specs.Prelude.{ℕ, ◌≡◌, refl, Bool, false, ◌||◌, List, []}
+use Rattle.std.specs.Prelude.{ℕ, ◌≡◌, refl, Bool, false, ◌||◌, List, [], Err, None, Ok, Option, Result, ⊤}
+use Rattle.grounds.specs.declared.Ground.{Ground}
 use Rattle.std.proofs.Math.Bool.{or-false}
-use Rattle.grounds.specs.declared.Verdict.{Verdict}
-use Rattle.grounds.specs.declared.Verdict.TheVariants.{Accepted, Refused}
 use Rattle.grounds.specs.Grounds.{Refusal, refusal_of, no_refusal, if_accepted}
 use Rattle.board.specs.declared.Board.{Board}
 use Rattle.board.specs.declared.Place.{Place}
 use Rattle.board.specs.declared.Status.{Status}
 use Rattle.board.specs.declared.Debug.{Debug}
 use Rattle.board.specs.Setters.{with_status, with_halted, with_trg, with_bstat, with_sync}
-use Rattle.halting.specs.declared.Mark.TheVariants.{Absent}
 use Rattle.halting.specs.Halting.{halting}
 use Rattle.trigger.specs.declared.Event.{Event}
-use Rattle.firing.specs.declared.Captured.{Captured}
 use Rattle.firing.specs.declared.Firing.{Firing}
 use Rattle.firing.specs.Firing.{firing, ssm, captured, seen, status_after}
 use Rattle.bus.specs.EventAnswers.{told_captured, EventTold, told_event}
@@ -23,7 +20,7 @@ pub record SeenBefore : Type 0 where
   pub level : ℕ
   pub halted : Bool
   pub interrupt : Bool
-  pub captured : Captured
+  pub captured : Option ℕ
 
 abbrev halted_before : Debug → Firing → Bool
 halted_before d f = f.halts || ssm d
@@ -42,10 +39,10 @@ pub record ToldBefore : Type 0 where
   pub interrupt : Bool
   pub captured : List ℕ
 
-abbrev pub told_before : Verdict → SeenBefore → ToldBefore
-told_before Accepted s =
+abbrev pub told_before : Result ⊤ Ground → SeenBefore → ToldBefore
+told_before (Ok _) s =
     record { refusal = no_refusal; level = s.level; halted = s.halted; interrupt = s.interrupt; captured = told_captured s.captured }
-told_before (Refused g) s = record { refusal = refusal_of g; level = 0; halted = false; interrupt = false; captured = [] }
+told_before (Err g) s = record { refusal = refusal_of g; level = 0; halted = false; interrupt = false; captured = [] }
 
 abbrev pub board_before : Board → Place → Event → Board
 board_before b p event = if_accepted (event_verdict b p event) (with_status b (status_before b.status b.debug (firing b.status b.debug event))) b
@@ -62,14 +59,14 @@ pub record AsBefore (b : Board) (p : Place) (event : Event) : Type 0 where
   pub board : board_after_event b p event ≡ board_before b p event
 
 -- for every event and board
-pub unmarked_as_before : (b : Board) (p : Place) (event : Event) → event.mark ≡ Absent → AsBefore b p event
+pub unmarked_as_before : (b : Board) (p : Place) (event : Event) → event.mark ≡ None → AsBefore b p event
 unfolding seen status_after halting
 unmarked_as_before b p event absent = by_verdict (event_verdict b p event) refl
   where
-    by_verdict : (v : Verdict) → event_verdict b p event ≡ v → AsBefore b p event
-    by_verdict Accepted e = record {
+    by_verdict : (v : Result ⊤ Ground) → event_verdict b p event ≡ v → AsBefore b p event
+    by_verdict (Ok _) e = record {
       answer = rw (e, absent, or-false (ssm b.debug));
       silent = rw (e, absent);
       board = rw (e, absent, or-false (ssm b.debug), or-false b.status.halt);
     }
-    by_verdict (Refused g) e = record { answer = rw e; silent = rw e; board = rw e }
+    by_verdict (Err g) e = record { answer = rw e; silent = rw e; board = rw e }

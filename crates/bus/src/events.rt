@@ -2,35 +2,35 @@
 ghost use Rattle.std.specs.Prelude.{◌≡◌};
 ghost use Rattle.bus.specs.Events.{reserved_size, event_verdict};
 
+use comparators::BusAccess;
 use board::{Board, Place};
-use grounds::{Ground, Verdict};
-use groups::Bus;
+use grounds::Ground;
 use trigger::Event;
 
-fn is_reserved(bus: Bus) -> bool
+fn is_reserved(bus: Option<BusAccess>) -> bool
     ensures { result ≡ reserved_size bus }
 {
     match bus {
-        Bus::Idle => false,
-        Bus::Carries(access) => comparators::lanes::size_field(access) == 3,
+        None => false,
+        Some(access) => comparators::lanes::size_field(access) == 3,
     }
 }
 
-pub fn judge_event(board: Board, place: Place, event: Event) -> Verdict
+pub fn judge_event(board: Board, place: Place, event: Event) -> Result<(), Ground>
     ensures { result ≡ event_verdict board place event }
 {
     let bus = event.bus;
     if !ranges::is_in_range(board, place) {
-        return Verdict::Refused(Ground::StateOutOfRange);
+        return Err(Ground::StateOutOfRange);
     }
     if board.status.halted {
-        return Verdict::Refused(Ground::EventWhileHalted);
+        return Err(Ground::EventWhileHalted);
     }
     if event.pc % 2 != 0 {
-        return Verdict::Refused(Ground::OddPc);
+        return Err(Ground::OddPc);
     }
     if is_reserved(bus) {
-        return Verdict::Refused(Ground::ReservedSize);
+        return Err(Ground::ReservedSize);
     }
-    Verdict::Accepted
+    Ok(())
 }

@@ -5,32 +5,20 @@ ghost use Rattle.bus.specs.Events.{EventMeets, BreakpointMeets};
 
 use board::{Board, Place};
 use firing::{Pressed, Seen};
-use grounds::{Ground, Verdict};
+use grounds::Ground;
 use trigger::Event;
 
 mod events;
 
 #[derive(Clone, Copy)]
-pub enum EventOutcome {
-    Refused(Ground),
-    Taken(Seen),
-}
-
-#[derive(Clone, Copy)]
 pub struct EventAnswer {
-    pub outcome: EventOutcome,
+    pub outcome: Result<Seen, Ground>,
     pub board: Board,
 }
 
 #[derive(Clone, Copy)]
-pub enum BreakpointOutcome {
-    Refused(Ground),
-    Taken(Pressed),
-}
-
-#[derive(Clone, Copy)]
 pub struct BreakpointAnswer {
-    pub outcome: BreakpointOutcome,
+    pub outcome: Result<Pressed, Ground>,
     pub board: Board,
 }
 
@@ -39,11 +27,11 @@ pub fn take_event(board: Board, place: Place, event: Event) -> EventAnswer
 {
     let verdict = events::judge_event(board, place, event);
     match verdict {
-        Verdict::Refused(ground) => EventAnswer {
-            outcome: EventOutcome::Refused(ground),
+        Err(ground) => EventAnswer {
+            outcome: Err(ground),
             board: board,
         },
-        Verdict::Accepted => {
+        Ok(()) => {
             let status = board.status;
             let debug = board.debug;
             let fired = firing::fire(status, debug, event);
@@ -52,7 +40,7 @@ pub fn take_event(board: Board, place: Place, event: Event) -> EventAnswer
             let mut b = board;
             b.status = after;
             EventAnswer {
-                outcome: EventOutcome::Taken(answer),
+                outcome: Ok(answer),
                 board: b,
             }
         }
@@ -70,12 +58,12 @@ pub fn press_breakpoint(board: Board, place: Place) -> BreakpointAnswer
         let mut b = board;
         b.status = after;
         return BreakpointAnswer {
-            outcome: BreakpointOutcome::Taken(answer),
+            outcome: Ok(answer),
             board: b,
         };
     }
     BreakpointAnswer {
-        outcome: BreakpointOutcome::Refused(Ground::StateOutOfRange),
+        outcome: Err(Ground::StateOutOfRange),
         board: board,
     }
 }

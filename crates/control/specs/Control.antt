@@ -1,9 +1,7 @@
 -- Packets (01): the control and general registers.
-use Rattle.std.specs.Prelude.{ℕ, suc, ◌%◌, Bool, cond, List, [], ◌∷◌, eqb, ltb, get_or, set}
+use Rattle.std.specs.Prelude.{ℕ, suc, ◌%◌, Bool, cond, List, [], ◌∷◌, eqb, ltb, get_or, set, None, Option, Some}
 use Rattle.board.specs.declared.Board.{Board}
 use Rattle.board.specs.Setters.{with_registers, with_general, with_control}
-use Rattle.control.specs.declared.Shown.{Shown}
-use Rattle.control.specs.declared.Shown.TheVariants.{Value, BusError}
 
 -- "Control registers: .."
 abbrev pub control_numbers : List ℕ
@@ -21,8 +19,8 @@ control_index n = index_in control_numbers n
 abbrev pub control_listed : ℕ → Bool
 control_listed n = ltb (control_index n) 10
 
-unfoldable pub control_fetched : Board → ℕ → Shown
-control_fetched b n = cond (control_listed n) (Value (get_or b.registers.control (control_index n) 0)) BusError
+unfoldable pub control_fetched : Board → ℕ → Option ℕ
+control_fetched b n = cond (control_listed n) (Some (get_or b.registers.control (control_index n) 0)) None
 
 unfoldable pub control_written : Board → ℕ → ℕ → Board
 control_written b n v = cond (control_listed n) (with_registers b (with_control b.registers (set b.registers.control (control_index n) v))) b

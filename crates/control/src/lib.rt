@@ -6,13 +6,6 @@ ghost use Rattle.control.specs.Control.{control_index, control_listed, control_f
 
 use board::Board;
 
-// A register's value; a control register that is not listed is a bus error.
-#[derive(Clone, Copy)]
-pub enum Shown {
-    Value(u32),
-    BusError,
-}
-
 // The index among the ten control registers; 10 for a number that is none of them.
 fn index_of(number: u32) -> usize
     ensures { result ≡ control_index number }
@@ -46,15 +39,15 @@ pub fn is_listed(number: u32) -> bool
     index_of(number) < 10
 }
 
-pub fn fetch_control(board: Board, number: u32) -> Shown
+pub fn fetch_control(board: Board, number: u32) -> Option<u32>
     ensures { result ≡ control_fetched board number }
 {
     let i = index_of(number);
     if i < 10 {
         let registers = board.registers;
-        return Shown::Value(registers.control[i]);
+        return Some(registers.control[i]);
     }
-    Shown::BusError
+    None
 }
 
 pub fn set_control(board: Board, number: u32, value: u32) -> Board

@@ -1,5 +1,6 @@
 -- Laws of [10] in packets: over a list the words and NOPs come to the same at every W, and only their number grows.
-use Rattle.std.specs.Prelude.{ℕ, ◌+◌, ◌*◌, ◌≤◌, ◌≡◌, Bool, true, false, cond, length}
+use Rattle.std.specs.Prelude.{ℕ, ◌+◌, ◌*◌, ◌≤◌, ◌≡◌, Bool, true, false, cond, length, Err, Ok, Result, ⊤}
+use Rattle.grounds.specs.declared.Ground.{Ground}
 use Rattle.std.proofs.Common.{arith, mul-add, ap, sym, ◌∙◌, subst, length-append}
 use Rattle.std.proofs.Math.Path.{refl}
 use mathlib.Core.List.{List, [], ◌∷◌, map}
@@ -7,8 +8,6 @@ use Rattle.laws.specs.TestLaws.{by_test}
 use Rattle.command.specs.Command.{waits}
 use Rattle.command.specs.Reply.{complete}
 use Rattle.board.specs.Board.{fresh_board, fresh_place}
-use Rattle.grounds.specs.declared.Verdict.{Verdict}
-use Rattle.grounds.specs.declared.Verdict.TheVariants.{Accepted, Refused}
 use Rattle.plan.specs.Plan.{waits_of}
 use Rattle.run.specs.Run.{ran}
 use Rattle.sound.specs.Sound.{SoundMemory, Sound}
@@ -115,9 +114,9 @@ legal_taken : (request : Request) (s : Scene) → Sound (resting s complete) →
 unfolding state_there
 legal_taken request s f legal = by_verdict (exchange_verdict request (resting s complete)) refl
   where
-    by_verdict : (v : Verdict) → exchange_verdict request (resting s complete) ≡ v → LegalTaken request s
-    by_verdict (Refused why) e = let no : false ≡ true = rw e at legal in let one : ◌≡◌ {A = ℕ} 0 1 = cc in absurd (omega arith)
-    by_verdict Accepted e =
+    by_verdict : (v : Result ⊤ Ground) → exchange_verdict request (resting s complete) ≡ v → LegalTaken request s
+    by_verdict (Err why) e = let no : false ≡ true = rw e at legal in let one : ◌≡◌ {A = ℕ} 0 1 = cc in absurd (omega arith)
+    by_verdict (Ok _) e =
         let h = (accepted_is_within request (resting s complete) e).asked in
         let from = from_rest request s complete h f in
         let l : legal_there request s ≡ true = rw (e, from.scene) at legal in

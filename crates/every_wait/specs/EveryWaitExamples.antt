@@ -1,5 +1,5 @@
 -- Examples of [10]: a list of requests at two settings, and a list that shows where W does play a part: a pod that does not bring the port to rest.
-use Rattle.std.specs.Prelude.{ℕ, ◌≡◌, refl, List, [], ◌∷◌}
+use Rattle.std.specs.Prelude.{ℕ, ◌≡◌, refl, List, [], ◌∷◌, Ok, Result}
 use Rattle.memory.specs.declared.Size.TheVariants.{Byte, Word, Long}
 use Rattle.memory.specs.Memory.{fetched}
 use Rattle.command.specs.Command.{decoded, decoded_word}
@@ -16,7 +16,6 @@ use Rattle.readings.specs.declared.Reader.TheVariants.{Closed}
 use Rattle.round_trip.specs.RoundTrip.{state_there, packets_there}
 use Rattle.round_trip.specs.BroughtToRest.{rested, rest_nops}
 use Rattle.round_trip.specs.TalkMirror.{talked, exchanged}
-use Rattle.exchange.specs.declared.Exchanged.TheVariants.{Ended}
 use Rattle.exchange_verdict.specs.ExchangeVerdict.{exchange_verdict}
 use Rattle.every_wait.specs.EveryWait.{fresh_at, answers, Result, results}
 
@@ -27,11 +26,11 @@ dumps = Read Byte 0 ∷ Dump Byte ∷ Dump Byte ∷ []
 abbrev three : List ℕ
 three = 7 ∷ 8 ∷ 9 ∷ []
 
-pub dumps_at_0 : answers dumps (fresh_at 0 three) ≡ Ended (Value 7) 4 ∷ Ended (Value 8) 2 ∷ Ended (Value 9) 2 ∷ []
+pub dumps_at_0 : answers dumps (fresh_at 0 three) ≡ Ok (Value 7, 4) ∷ Ok (Value 8, 2) ∷ Ok (Value 9, 2) ∷ []
 unfolding answers exchange_verdict in_range bstat_in_range rested rest_nops state_there packets_there fresh_board fresh_place decoded decoded_word
 dumps_at_0 = refl
 
-pub dumps_at_3 : answers dumps (fresh_at 3 three) ≡ Ended (Value 7) 7 ∷ Ended (Value 8) 5 ∷ Ended (Value 9) 5 ∷ []
+pub dumps_at_3 : answers dumps (fresh_at 3 three) ≡ Ok (Value 7, 7) ∷ Ok (Value 8, 5) ∷ Ok (Value 9, 5) ∷ []
 unfolding answers exchange_verdict in_range bstat_in_range rested rest_nops state_there packets_there fresh_board fresh_place decoded decoded_word
 dumps_at_3 = refl
 

@@ -1,5 +1,6 @@
 -- Laws: one request at another wait setting. It is refused or legal alike, its result is the same, and it leaves the same but for W.
-use Rattle.std.specs.Prelude.{ℕ, zero, suc, ◌≤◌, ◌≡◌, refl, true, false, ◌||◌, not, [], ◌∷◌, ◌++◌, length}
+use Rattle.std.specs.Prelude.{ℕ, zero, suc, ◌≤◌, ◌≡◌, refl, true, false, ◌||◌, not, [], ◌∷◌, ◌++◌, length, Err, Ok, Result, ⊤}
+use Rattle.grounds.specs.declared.Ground.{Ground}
 use Rattle.std.proofs.Common.{arith, ap, sym, ◌∙◌, subst}
 use Rattle.laws.specs.TestLaws.{by_test, both_hold}
 use Rattle.memory.specs.declared.Size.TheVariants.{Byte, Word, Long}
@@ -11,8 +12,6 @@ use Rattle.command.specs.declared.Source.TheVariants as source
 use Rattle.command.specs.declared.Target.TheVariants as target
 use Rattle.command.specs.Command.{decoded, operand_words, halted_only, waits}
 use Rattle.command.specs.Reply.{complete, illegal}
-use Rattle.grounds.specs.declared.Verdict.{Verdict}
-use Rattle.grounds.specs.declared.Verdict.TheVariants.{Accepted, Refused}
 use Rattle.board.specs.declared.Chain.TheVariants.{Off}
 use Rattle.board.specs.declared.Phase.{Phase}
 use Rattle.board.specs.declared.Phase.TheVariants.{Rest, Due, Waiting, Upper}
@@ -188,10 +187,10 @@ pub record SameRequest (w : ℕ) (request : Request) (s : State) : Type 0 where
 pub same_request : (w : ℕ) (request : Request) {s : State} → w ≤ 15 → Ready s → SameRequest w request s
 same_request w request {s} small r = by_verdict (exchange_verdict request s) refl
   where
-    by_verdict : (v : Verdict) → exchange_verdict request s ≡ v → SameRequest w request s
-    by_verdict (Refused why) e =
+    by_verdict : (v : Result ⊤ Ground) → exchange_verdict request s ≡ v → SameRequest w request s
+    by_verdict (Err why) e =
         let e' = verdict_at w request small r ∙ e in record { legal = rw (e, e'); result = rw (e, e'); leaves = rw (e, e'); ready = rw e r }
-    by_verdict Accepted e =
+    by_verdict (Ok _) e =
         let e' = verdict_at w request small r ∙ e in
         let within = accepted_is_within request s e in
         let f = ready_sound r within.memory in

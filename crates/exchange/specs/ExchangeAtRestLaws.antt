@@ -1,5 +1,5 @@
 -- Laws of the promise of an exchange, at rest: no NOP goes first, a legal request ends as meant, and a WRITE is read back.
-use Rattle.std.specs.Prelude.{ℕ, ◌≡◌, refl, true, List}
+use Rattle.std.specs.Prelude.{ℕ, ◌≡◌, refl, true, List, Ok}
 use Rattle.std.proofs.Common.{zero-add, ap, ◌∙◌, subst, le-leb}
 use Rattle.laws.specs.TestLaws.{by_test, both_hold}
 use Rattle.memory.specs.declared.Size.{Size}
@@ -7,7 +7,6 @@ use Rattle.memory.specs.declared.Size.TheVariants.{Byte, Word, Long}
 use Rattle.memory.specs.Memory.{present}
 use Rattle.command.specs.Command.{decoded, decoded_word}
 use Rattle.command.specs.Reply.{complete}
-use Rattle.grounds.specs.declared.Verdict.TheVariants.{Accepted}
 use Rattle.board.specs.State.{State, state_of}
 use Rattle.sound.specs.Sound.{Sound}
 use Rattle.sound.specs.SoundLaws.{sound_is_in_range}
@@ -21,7 +20,6 @@ use Rattle.round_trip.specs.BroughtToRest.{rest_budget, rest_scene, rest_packets
 use Rattle.round_trip.proofs.UnderwayLaws.{rest_stays}
 use Rattle.round_trip.proofs.WriteReadLaws.{write_then_read}
 use Rattle.round_trip.proofs.NextRequestLaws.{left_sound}
-use Rattle.exchange.specs.declared.Exchanged.TheVariants.{Ended}
 use Rattle.exchange.specs.declared.Returned.{Returned}
 use Rattle.exchange_verdict.specs.ExchangeVerdict.{exchange_verdict}
 use Rattle.exchange.specs.Exchange.{ExchangeMeets}
@@ -29,7 +27,7 @@ use Rattle.exchange.specs.ExchangeUnique.{told_exchange_unique}
 
 pub record FromRest (request : Request) (s : Scene) (next : ℕ) : Type 0 where
   -- it is not refused
-  pub verdict : exchange_verdict request (resting s next) ≡ Accepted
+  pub verdict : exchange_verdict request (resting s next) ≡ Ok tt
   -- no NOP goes first
   pub scene : rest_scene (resting s next) ≡ s
   pub none : rest_packets (resting s next) ≡ 0
@@ -46,7 +44,7 @@ from_rest request s next h f =
 
 -- a legal request exchanged from rest: its meaning
 pub record EndsAsMeant (request : Request) (s : Scene) (r : Returned) (after : List ℕ) : Type 0 where
-  pub answer : r.answer ≡ Ended (meaning request s).outcome (packets_there request s)
+  pub answer : r.answer ≡ Ok ((meaning request s).outcome, packets_there request s)
   pub state : state_of r.board r.place after ≡ resting (meaning request s).leaves complete
 
 pub ends_as_meant : {request : Request} {s : Scene} {next : ℕ} {r : Returned} {after : List ℕ}
@@ -57,7 +55,7 @@ ends_as_meant {request} {s} {next} {r} h f legal met =
     let from = from_rest request s next h f in
     record {
       answer =
-          told_exchange_unique r.answer (Ended (meaning request s).outcome (packets_there request s))
+          told_exchange_unique r.answer (Ok ((meaning request s).outcome, packets_there request s))
           (met.answer ∙ rw (from.verdict, from.scene, from.none, zero-add (packets_there request s), legal));
       state = met.state ∙ rw (from.verdict, from.scene, legal);
     }
@@ -80,7 +78,7 @@ pub write_is_read_back : {size : Size} {address value : ℕ} {s : Scene} {next :
     → in_range (Write size address value) ≡ true → Sound (resting s next) → present s.memory size address ≡ true
     → ExchangeMeets (Write size address value) (resting s next) r after
     → ExchangeMeets (Read size address) (state_of r.board r.place after) q last
-    → q.answer ≡ Ended (Value value) (packets_there (Read size address) (meaning (Write size address value) s).leaves)
+    → q.answer ≡ Ok (Value value, packets_there (Read size address) (meaning (Write size address value) s).leaves)
 write_is_read_back {size} {address} {value} {s} {next} {q = q} {last = last} h f there wrote read =
     let w : Request = Write size address value in
     let left : Scene = (meaning w s).leaves in
@@ -89,4 +87,4 @@ write_is_read_back {size} {address} {value} {s} {next} {q = q} {last = last} h f
     let again =
     ends_as_meant asked (left_sound w s next h legal f) (read_legal size address left)
     (subst (λ (x : State). ExchangeMeets (Read size address) x q last) (ends_as_meant h f legal wrote).state read) in
-    again.answer ∙ ap (λ o. Ended o (packets_there (Read size address) left)) (write_then_read size address value s h there).reads
+    again.answer ∙ ap (λ o. Ok (o, packets_there (Read size address) left)) (write_then_read size address value s h there).reads

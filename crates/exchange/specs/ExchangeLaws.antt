@@ -1,8 +1,7 @@
 -- Laws of the exchange in code: brought to rest, sent and read, it answers as promised.
-use Rattle.std.specs.Prelude.{ℕ, ◌+◌, ◌≤◌, ◌≡◌, true, [], ◌∷◌, leb, length}
+use Rattle.std.specs.Prelude.{ℕ, ◌+◌, ◌≤◌, ◌≡◌, true, [], ◌∷◌, leb, length, Ok}
 use Rattle.std.proofs.Common.{arith, ap, ◌∙◌, leb-true}
 use Rattle.grounds.specs.declared.Ground.TheVariants.{MemoryTooLong, StateOutOfRange, RequestOutOfRange}
-use Rattle.grounds.specs.declared.Verdict.TheVariants.{Accepted}
 use Rattle.grounds.specs.Grounds.{check}
 use Rattle.grounds.specs.GroundLaws.{accepted_holds}
 use Rattle.board.specs.Board.{at_rest}
@@ -27,7 +26,7 @@ pub record Within (request : Request) (s : State) : Type 0 where
   pub state : stateInRange s.board s.place ≡ true
   pub memory : length s.memory ≤ 65536
 
-pub accepted_is_within : (request : Request) (s : State) → exchange_verdict request s ≡ Accepted → Within request s
+pub accepted_is_within : (request : Request) (s : State) → exchange_verdict request s ≡ Ok tt → Within request s
 unfolding exchange_verdict
 accepted_is_within request s e =
     let three = check (leb (length s.memory) 65536) MemoryTooLong ∷ [] in

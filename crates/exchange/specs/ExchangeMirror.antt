@@ -1,5 +1,7 @@
 -- What the code makes of a reader, and what the types of its parameters give, beyond the ranges of ground 12.
-use Rattle.std.specs.Prelude.{ℕ, ◌^◌, ◌<◌}
+use Rattle.std.specs.Prelude.{ℕ, ◌^◌, ◌<◌, Err, Ok, Result}
+use Rattle.readings.specs.declared.Outcome.{Outcome}
+use Rattle.grounds.specs.declared.Ground.{Ground}
 use Rattle.grounds.specs.declared.Ground.TheVariants.{ImpossibleReply}
 use Rattle.memory.specs.Memory.{AllBelow}
 use Rattle.board.specs.declared.Phase.{Phase}
@@ -8,15 +10,13 @@ use Rattle.board.specs.State.{State}
 use Rattle.sound.specs.Sound.{DebugWithin, OperandsWithin}
 use Rattle.readings.specs.declared.Reader.{Reader}
 use Rattle.readings.specs.declared.Reader.TheVariants.{First, Second, Closed, Bad}
-use Rattle.exchange.specs.declared.Exchanged.{Exchanged}
-use Rattle.exchange.specs.declared.Exchanged.TheVariants.{Ended, Refused}
 
 -- what a reader that is done brings; no exchange ends with another
-abbrev pub answer_of : Reader → ℕ → Exchanged
-answer_of First packets = Refused ImpossibleReply
-answer_of (Second upper) packets = Refused ImpossibleReply
-answer_of (Closed outcome) packets = Ended outcome packets
-answer_of (Bad why) packets = Refused why
+abbrev pub answer_of : Reader → ℕ → Result (Outcome × ℕ) Ground
+answer_of First packets = Err ImpossibleReply
+answer_of (Second upper) packets = Err ImpossibleReply
+answer_of (Closed outcome) packets = Ok (outcome, packets)
+answer_of (Bad why) packets = Err why
 
 -- operand words of 16 bits, addresses and data of 32
 abbrev pub PhaseTyped : Phase → Type 0

@@ -1,5 +1,6 @@
 -- Laws of sending: no packet of an exchange is refused, and the words in the buffer are those built.
-use Rattle.std.specs.Prelude.{ℕ, zero, suc, ◌≤◌, ◌≡◌, refl, Bool, true, false, not, List, [], ◌∷◌, ◌++◌, length, get_or, drop, replicate}
+use Rattle.std.specs.Prelude.{ℕ, zero, suc, ◌≤◌, ◌≡◌, refl, Bool, true, false, not, List, [], ◌∷◌, ◌++◌, length, get_or, drop, replicate, Result}
+use Rattle.grounds.specs.declared.Ground.{Ground}
 use Rattle.std.proofs.Common.{arith, sym, ap, ◌∙◌, le-leb}
 use Rattle.board.specs.State.{State}
 use Rattle.port.specs.declared.Answer.{Answer}
@@ -8,7 +9,6 @@ use Rattle.port.specs.PacketLaws.{accepted_takes_its_step, no_other}
 use Rattle.sound.specs.Sound.{Sound}
 use Rattle.sound.specs.SoundLaws.{sound_is_in_range}
 use Rattle.requests.specs.declared.Request.{Request}
-use Rattle.building.specs.declared.Built.{Built}
 use Rattle.requests.specs.Request.{in_range}
 use Rattle.building.specs.RequestWords.{built_words}
 use Rattle.pod_laws.specs.RequestCountLaws.{word_count_bound}
@@ -45,7 +45,7 @@ padding_adds_zeros (x ∷ xs) ys zero h = refl
 padding_adds_zeros (x ∷ xs) ys (suc i) h = padding_adds_zeros xs ys i h
 
 -- five words of zero, built into, hold the request's words and then NOPs
-pub built_then_nops : {request : Request} {r : Built} {after : List ℕ} → BuildingMeets request (replicate 5 0) r after → in_range request ≡ true
+pub built_then_nops : {request : Request} {r : Result ℕ Ground} {after : List ℕ} → BuildingMeets request (replicate 5 0) r after → in_range request ≡ true
     → (i : ℕ) → get_or after i 0 ≡ get_or (built_words request) i 0
 built_then_nops {request} m h i =
     let room = le-leb (length (built_words request)) 5 (word_count_bound request) in

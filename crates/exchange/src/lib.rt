@@ -11,35 +11,28 @@ ghost use Rattle.exchange.specs.Exchange.{ended_there, ExchangeMeets};
 ghost use Rattle.exchange.specs.ExchangeMirror.{answer_of, PhaseTyped, Typed};
 
 use board::{Board, Phase, Place};
-use grounds::{Ground, Verdict};
+use grounds::Ground;
 use readings::{Outcome, Reader};
 use requests::Request;
 
 mod talk;
 
-// How an exchange ends: with the request's outcome and the packets sent, or refused with none sent.
-#[derive(Clone, Copy)]
-pub enum Exchanged {
-    Ended(Outcome, u32),
-    Refused(Ground),
-}
-
 // The answer, with the board and the place as they are left.
 #[derive(Clone, Copy)]
 pub struct Returned {
-    pub answer: Exchanged,
+    pub answer: Result<(Outcome, u32), Ground>,
     pub board: Board,
     pub place: Place,
 }
 
-fn answer_of(reader: Reader, packets: u32) -> Exchanged
+fn answer_of(reader: Reader, packets: u32) -> Result<(Outcome, u32), Ground>
     ensures { result ≡ answer_of reader packets }
 {
     match reader {
-        Reader::First => Exchanged::Refused(Ground::ImpossibleReply),
-        Reader::Second(_) => Exchanged::Refused(Ground::ImpossibleReply),
-        Reader::Closed(outcome) => Exchanged::Ended(outcome, packets),
-        Reader::Bad(ground) => Exchanged::Refused(ground),
+        Reader::First => Err(Ground::ImpossibleReply),
+        Reader::Second(_) => Err(Ground::ImpossibleReply),
+        Reader::Closed(outcome) => Ok((outcome, packets)),
+        Reader::Bad(ground) => Err(ground),
     }
 }
 
@@ -89,9 +82,9 @@ pub fn exchange(request: Request, board: Board, place: Place, memory: &mut [u8])
 {
     note_types(board, place, memory);
     match exchange_verdict::judge_exchange(request, board, place, memory) {
-        Verdict::Accepted => rest_and_converse(request, board, place, memory),
-        Verdict::Refused(ground) => Returned {
-            answer: Exchanged::Refused(ground),
+        Ok(()) => rest_and_converse(request, board, place, memory),
+        Err(ground) => Returned {
+            answer: Err(ground),
             board: board,
             place: place,
         },

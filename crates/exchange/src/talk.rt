@@ -49,13 +49,13 @@ fn send(board: Board, place: Place, memory: &mut [u8], word: u32) -> Sent
     let board_next = answer.board;
     let place_next = answer.place;
     match outcome {
-        port::Outcome::Reply(reply) => Sent {
+        Ok(reply) => Sent {
             reply: reply,
             board: board_next,
             place: place_next,
         },
         // No packet of an exchange is refused.
-        port::Outcome::Refusing(_) => Sent {
+        Err(_) => Sent {
             reply: 0,
             board: board_next,
             place: place_next,

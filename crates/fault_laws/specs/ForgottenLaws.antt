@@ -1,10 +1,8 @@
 -- [4] "Replies on the port don't change, so demands 2 and 3 read as before": for every history the port with the number forgotten is the port before.
-use Rattle.std.specs.Prelude.{ℕ, ◌≡◌, refl, List, [], ◌∷◌}
+use Rattle.std.specs.Prelude.{ℕ, ◌≡◌, refl, List, [], ◌∷◌, Err, None, Ok, Result, ⊤}
+use Rattle.grounds.specs.declared.Ground.{Ground}
 use Rattle.std.proofs.Common.{ap, ap₂, sym, ◌∙◌}
-use Rattle.grounds.specs.declared.Verdict.{Verdict}
-use Rattle.grounds.specs.declared.Verdict.TheVariants.{Accepted, Refused}
 use Rattle.grounds.specs.Grounds.{if_accepted}
-use Rattle.board.specs.declared.Fault.TheVariants.{NoFault}
 use Rattle.board.specs.Board.{fresh_board, fresh_place}
 use Rattle.board.specs.State.{State, state_of}
 use Rattle.step.specs.Step.{reply_now, stepped}
@@ -20,14 +18,14 @@ use Rattle.fault_laws.specs.PortBeforeLaws.{event_forgotten, breakpoint_forgotte
 
 -- ---- the state that calls lead to
 call_forgotten : (s : State) (c : Call) → forgotten (after_call stand_in s c) ≡ after_call port_before (forgotten s) c
-call_forgotten s (packet m word) = rw (verdict_forgotten (lending s m) NoFault word) (by (packet_verdict (lending s m) word))
+call_forgotten s (packet m word) = rw (verdict_forgotten (lending s m) None word) (by (packet_verdict (lending s m) word))
   where
-    by : (v : Verdict) → forgotten (if_accepted v (stepped (lending s m) word) (lending s m))
+    by : (v : Result ⊤ Ground) → forgotten (if_accepted v (stepped (lending s m) word) (lending s m))
         ≡ if_accepted v (stepped_before (lending (forgotten s) m) word) (lending (forgotten s) m)
-    by Accepted = packet_forgotten (lending s m) word
-    by (Refused g) = refl
-call_forgotten s (event e) = ap (λ b. state_of b s.place s.memory) (event_leaves s.board s.place NoFault e)
-call_forgotten s breakpoint = ap (λ b. state_of b s.place s.memory) (breakpoint_leaves s.board s.place NoFault)
+    by (Ok _) = packet_forgotten (lending s m) word
+    by (Err g) = refl
+call_forgotten s (event e) = ap (λ b. state_of b s.place s.memory) (event_leaves s.board s.place None e)
+call_forgotten s breakpoint = ap (λ b. state_of b s.place s.memory) (breakpoint_leaves s.board s.place None)
 
 calls_forgotten : (calls : List Call) (s : State) → forgotten (after stand_in s calls) ≡ after port_before (forgotten s) calls
 unfolding after
@@ -45,7 +43,7 @@ also_from calls x h e = h ∙ ap (λ (z : State). handed port_before z.place (fi
 
 packet_hands : (s : State) (m : Lent) (word : ℕ) (cs : List Call) → ((x : State) → SameHanded cs x) → SameHanded (packet m word ∷ cs) s
 unfolding finds handed
-packet_hands s m word cs behind = rw (verdict_forgotten (lending s m) NoFault word) (by (packet_verdict (lending s m) word))
+packet_hands s m word cs behind = rw (verdict_forgotten (lending s m) None word) (by (packet_verdict (lending s m) word))
   where
     now : State
     now = lending s m
@@ -59,15 +57,15 @@ packet_hands s m word cs behind = rw (verdict_forgotten (lending s m) NoFault wo
     then : State
     then = stepped_before before word
 
-    by : (v : Verdict)
+    by : (v : Result ⊤ Ground)
         → handed stand_in s.place (if_accepted v (finding s m word ∷ finds stand_in (if_accepted v next now) cs) (finds stand_in (if_accepted v next now) cs))
         ≡ handed port_before s.place
         (if_accepted v (finding (forgotten s) m word ∷ finds port_before (if_accepted v then before) cs) (finds port_before (if_accepted v then before) cs))
-    by Accepted =
+    by (Ok _) =
         let step = packet_forgotten now word in
         ap₂ (λ (x : Handed) (xs : List Handed). x ∷ xs) (ap (λ (z : State). record { reply = reply_now s.place; memory = z.memory }) step)
         (also_from cs next (behind next) step)
-    by (Refused g) = also_from cs now (behind now) refl
+    by (Err g) = also_from cs now (behind now) refl
 
 same_handed : (calls : List Call) (s : State) → SameHanded calls s
 unfolding finds handed
@@ -102,7 +100,7 @@ port_as_before w history =
     record {
       state = state;
       replies = same_handed history (made w);
-      verdict = λ m word. sym (verdict_forgotten (lending here m) NoFault word) ∙ ap (λ (z : State). packet_verdict (lending z m) word) state;
-      event = λ e. sym (event_forgotten here.board here.place NoFault e) ∙ ap (λ (z : State). event_outcome z.board z.place e) state;
-      breakpoint = sym (breakpoint_forgotten here.board here.place NoFault) ∙ ap (λ (z : State). breakpoint_outcome z.board z.place) state;
+      verdict = λ m word. sym (verdict_forgotten (lending here m) None word) ∙ ap (λ (z : State). packet_verdict (lending z m) word) state;
+      event = λ e. sym (event_forgotten here.board here.place None e) ∙ ap (λ (z : State). event_outcome z.board z.place e) state;
+      breakpoint = sym (breakpoint_forgotten here.board here.place None) ∙ ap (λ (z : State). breakpoint_outcome z.board z.place) state;
     }

@@ -1,19 +1,16 @@
 -- [4] What is kept: by READ, WRITE, DUMP and FILL the lowest address that was not there; none in a history without a bus error of memory.
-use Rattle.std.specs.Prelude.{ℕ, ◌≡◌, refl, Bool, true, false, List, [], ◌∷◌}
+use Rattle.std.specs.Prelude.{ℕ, ◌≡◌, refl, Bool, true, false, List, [], ◌∷◌, Err, None, Ok, Option, Result, Some, ⊤}
+use Rattle.grounds.specs.declared.Ground.{Ground}
 use Rattle.std.proofs.Common.{◌∙◌, true≢false}
 use Rattle.laws.specs.TestLaws.{by_test}
 use Rattle.memory.specs.declared.Size.{Size}
 use Rattle.memory.specs.declared.Size.TheVariants.{Byte, Word, Long}
 use Rattle.memory.specs.Memory.{aligned, present, first_missing, value_at, fetched, reach}
 use Rattle.memory.specs.MemoryLaws.{LowestMissing, lowest_missing}
-use Rattle.grounds.specs.declared.Verdict.{Verdict}
-use Rattle.grounds.specs.declared.Verdict.TheVariants.{Accepted, Refused}
 use Rattle.grounds.specs.Grounds.{if_accepted}
 use Rattle.command.specs.declared.Command.{Command}
 use Rattle.command.specs.declared.Command.TheVariants.{Load, Store}
 use Rattle.command.specs.declared.Base.{Base}
-use Rattle.board.specs.declared.Fault.{Fault}
-use Rattle.board.specs.declared.Fault.TheVariants.{NoFault, FaultAt}
 use Rattle.board.specs.Board.{fresh_board}
 use Rattle.board.specs.State.{State}
 use Rattle.access.specs.declared.Access.{Access}
@@ -37,7 +34,7 @@ use Rattle.promises.specs.History.Call.{packet, event, breakpoint}
 -- ---- after a bus error of memory: of any state, and of any packet with which the work is done
 -- the number is an address of the access, beyond memory, and every lower one of the access is there
 pub record Kept (size : Size) (start : ℕ) (s next : State) : Type 0 where
-  pub number : next.board.fault ≡ FaultAt (first_missing s.memory size start)
+  pub number : next.board.fault ≡ Some (first_missing s.memory size start)
   pub lowest : LowestMissing s.memory size start (first_missing s.memory size start)
 
 module _ (size : Size) (base : Base) (s : State) (address value : ℕ) where
@@ -118,7 +115,7 @@ unfoldable pub NoneMissed : State → List Call → Type 0
 NoneMissed s [] = Unit {0}
 NoneMissed s (c ∷ cs) = (missed_by s c ≡ false) × NoneMissed (after_call stand_in s c) cs
 
-there_keeps : (e : Ending) (access : Access) (f : Fault) → misses access ≡ false → fault_after e access f ≡ f
+there_keeps : (e : Ending) (access : Access) (f : Option ℕ) → misses access ≡ false → fault_after e access f ≡ f
 there_keeps Complete _ f h = refl
 there_keeps Failed NoAccess f h = refl
 there_keeps Failed (Fetched size v past) f h = refl
@@ -134,25 +131,25 @@ left_keeps (Release low) s h = refl
 left_keeps (Work c address value) s h =
     let access = access_of c s.memory s.place.pointer address in there_keeps (ending_of c s.board address access) access s.board.fault h
 
-call_keeps_none : (s : State) (c : Call) → s.board.fault ≡ NoFault → missed_by s c ≡ false → (after_call stand_in s c).board.fault ≡ NoFault
+call_keeps_none : (s : State) (c : Call) → s.board.fault ≡ None → missed_by s c ≡ false → (after_call stand_in s c).board.fault ≡ None
 call_keeps_none s (packet m word) none h = by (packet_verdict (lending s m) word) h
   where
     plan : Plan
     plan = plan_for s.board s.place word
 
-    by : (v : Verdict) → if_accepted v (misses_by plan (lending s m)) false ≡ false
-        → (if_accepted v (stepped (lending s m) word) (lending s m)).board.fault ≡ NoFault
-    by Accepted h = rw (step_of_none (lending s m) word none) (left_keeps plan (lending s m) h ∙ none)
-    by (Refused g) h = none
+    by : (v : Result ⊤ Ground) → if_accepted v (misses_by plan (lending s m)) false ≡ false
+        → (if_accepted v (stepped (lending s m) word) (lending s m)).board.fault ≡ None
+    by (Ok _) h = rw (step_of_none (lending s m) word none) (left_keeps plan (lending s m) h ∙ none)
+    by (Err g) h = none
 call_keeps_none s (event e) none h = rw (event_changes_status_alone s.board s.place e) none
 call_keeps_none s breakpoint none h = rw (breakpoint_changes_status_alone s.board s.place) none
 
-calls_keep_none : (s : State) (calls : List Call) → s.board.fault ≡ NoFault → NoneMissed s calls → (after stand_in s calls).board.fault ≡ NoFault
+calls_keep_none : (s : State) (calls : List Call) → s.board.fault ≡ None → NoneMissed s calls → (after stand_in s calls).board.fault ≡ None
 unfolding after NoneMissed
 calls_keep_none s [] none h = none
 calls_keep_none s (c ∷ cs) none h = calls_keep_none (after_call stand_in s c) cs (call_keeps_none s c none h.0) h.1
 
 -- "an accepted history without a memory bus error keeps none"
-pub none_missed_none_kept : (w : ℕ) (history : List Call) → NoneMissed (made w) history → (after stand_in (made w) history).board.fault ≡ NoFault
+pub none_missed_none_kept : (w : ℕ) (history : List Call) → NoneMissed (made w) history → (after stand_in (made w) history).board.fault ≡ None
 unfolding fresh_board
 none_missed_none_kept w history h = calls_keep_none (made w) history refl h

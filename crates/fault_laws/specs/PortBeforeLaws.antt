@@ -1,14 +1,11 @@
 -- [4] "Replies on the port don't change": the port as it was before the request, and that a packet, an event and the breakpoint input do the same
 -- there once the number is forgotten.
-use Rattle.std.specs.Prelude.{ℕ, ◌≡◌}
+use Rattle.std.specs.Prelude.{ℕ, ◌≡◌, Err, None, Ok, Option, Result, ⊤}
+use Rattle.grounds.specs.declared.Ground.{Ground}
 use Rattle.std.proofs.Math.Path.{refl}
-use Rattle.grounds.specs.declared.Verdict.{Verdict}
-use Rattle.grounds.specs.declared.Verdict.TheVariants.{Accepted, Refused}
 use Rattle.grounds.specs.Grounds.{if_accepted}
 use Rattle.command.specs.declared.Command.{Command}
 use Rattle.board.specs.declared.Board.{Board}
-use Rattle.board.specs.declared.Fault.{Fault}
-use Rattle.board.specs.declared.Fault.TheVariants.{NoFault}
 use Rattle.board.specs.declared.Place.{Place}
 use Rattle.board.specs.declared.Status.{Status}
 use Rattle.board.specs.Setters.{with_status, with_fault}
@@ -50,10 +47,10 @@ port_before = record { verdict = stand_in.verdict; reply = stand_in.reply; step 
 
 -- the number forgotten
 abbrev pub forgotten : State → State
-forgotten s = faulted s NoFault
+forgotten s = faulted s None
 
 -- ---- a packet
-left_forgotten : (plan : Plan) (s : State) (f : Fault) → forgotten (left plan (faulted s f)) ≡ left_before plan (forgotten s)
+left_forgotten : (plan : Plan) (s : State) (f : Option ℕ) → forgotten (left plan (faulted s f)) ≡ left_before plan (forgotten s)
 left_forgotten (Hold phase) s f = refl
 left_forgotten Reject s f = refl
 left_forgotten (Release low) s f = refl
@@ -61,21 +58,21 @@ left_forgotten (Work c address value) s f =
     let access = access_of c s.memory s.place.pointer address in
     rw (
       same_work s.board f c address value,
-      same_work s.board NoFault c address value,
+      same_work s.board None c address value,
       same_ending s.board f c address access,
-      same_ending s.board NoFault c address access,
+      same_ending s.board None c address access,
     )
 
 pub packet_forgotten : (s : State) (word : ℕ) → forgotten (stepped s word) ≡ stepped_before (forgotten s) word
 unfolding stepped plan_for
 packet_forgotten s word = left_forgotten (plan_for s.board s.place word) s (word_taken s word).board.fault
 
-pub verdict_forgotten : (s : State) (f : Fault) (word : ℕ) → packet_verdict (faulted s f) word ≡ packet_verdict s word
+pub verdict_forgotten : (s : State) (f : Option ℕ) (word : ℕ) → packet_verdict (faulted s f) word ≡ packet_verdict s word
 unfolding packet_verdict in_range
 verdict_forgotten s f word = refl
 
 -- ---- an event and the breakpoint input
-module _ (b : Board) (p : Place) (f : Fault) where
+module _ (b : Board) (p : Place) (f : Option ℕ) where
   pub event_forgotten : (e : Event) → event_outcome (with_fault b f) p e ≡ event_outcome b p e
   unfolding event_verdict in_range
   event_forgotten e = refl
@@ -84,9 +81,9 @@ module _ (b : Board) (p : Place) (f : Fault) where
   unfolding breakpoint_verdict in_range
   breakpoint_forgotten = refl
 
-  status_by : (v : Verdict) (s : Status) → with_fault (if_accepted v (with_status b s) b) f ≡ if_accepted v (with_status (with_fault b f) s) (with_fault b f)
-  status_by Accepted s = refl
-  status_by (Refused g) s = refl
+  status_by : (v : Result ⊤ Ground) (s : Status) → with_fault (if_accepted v (with_status b s) b) f ≡ if_accepted v (with_status (with_fault b f) s) (with_fault b f)
+  status_by (Ok _) s = refl
+  status_by (Err g) s = refl
 
   pub event_leaves : (e : Event) → with_fault (board_after_event b p e) f ≡ board_after_event (with_fault b f) p e
   unfolding event_verdict in_range

@@ -1,5 +1,5 @@
 -- [4] Laws of the number that the board keeps: which word is NOP's, and which work sets it.
-use Rattle.std.specs.Prelude.{ℕ, ◌/◌, ◌%◌, ◌≡◌, refl, Bool, true, false, cond, not, ◌&&◌, ◌||◌, List, [], ◌∷◌, eqb}
+use Rattle.std.specs.Prelude.{ℕ, ◌/◌, ◌%◌, ◌≡◌, refl, Bool, true, false, cond, not, ◌&&◌, ◌||◌, List, [], ◌∷◌, eqb, Option, Some}
 use Rattle.std.proofs.Common.{sym, ap, true≢false, eqb-true}
 use Rattle.laws.specs.TestLaws.{by_test, both_hold}
 use Rattle.memory.specs.declared.Size.{Size}
@@ -9,8 +9,6 @@ use Rattle.command.specs.declared.Command.TheVariants.{Unknown, Nop, Load, Store
 use Rattle.command.specs.declared.Base.{Base}
 use Rattle.command.specs.Command.{Row, rdreg, wdreg, nop, table, looked_up, decoded_word, decoded}
 use Rattle.board.specs.declared.Board.{Board}
-use Rattle.board.specs.declared.Fault.{Fault}
-use Rattle.board.specs.declared.Fault.TheVariants.{FaultAt}
 use Rattle.access.specs.Access.{start_of, access_of}
 use Rattle.work.specs.declared.Ending.{Ending}
 use Rattle.work.specs.declared.Ending.TheVariants.{Complete, Failed, OneWord, TwoWords}
@@ -60,21 +58,21 @@ nop_is_known word e = rw (eqb-true word 0 e)
 
 -- ---- the work
 -- a command that makes no access to memory, a control register's among them, keeps none of its own
-pub no_access_keeps_none : (e : Ending) (f : Fault) → fault_after e NoAccess f ≡ f
+pub no_access_keeps_none : (e : Ending) (f : Option ℕ) → fault_after e NoAccess f ≡ f
 no_access_keeps_none Complete f = refl
 no_access_keeps_none Failed f = refl
 no_access_keeps_none (OneWord v) f = refl
 no_access_keeps_none (TwoWords v) f = refl
 
 -- READ, WRITE, DUMP and FILL keep the lowest address of their access that is not there
-module _ (size : Size) (base : Base) (b : Board) (m : List ℕ) (pointer address : ℕ) (f : Fault)
+module _ (size : Size) (base : Base) (b : Board) (m : List ℕ) (pointer address : ℕ) (f : Option ℕ)
     (short : present m size (start_of base pointer address) ≡ false) where
   -- a bus error, and the number
   abbrev pub KeepsLowest : Command → Type 0
   KeepsLowest c =
       (ending_of c b address (access_of c m pointer address) ≡ Failed)
       × (fault_after (ending_of c b address (access_of c m pointer address)) (access_of c m pointer address) f
-      ≡ FaultAt (first_missing m size (start_of base pointer address)))
+      ≡ Some (first_missing m size (start_of base pointer address)))
 
   pub load_keeps : KeepsLowest (Load size base)
   unfolding fetched

@@ -6,11 +6,11 @@ ghost use Rattle.plan.specs.Plan.{taken_for};
 ghost use Rattle.faults.specs.Fault.{fault_taken, fault_of, fault_after};
 
 use access::Access;
-use board::{Fault, Phase};
+use board::Phase;
 use work::Ending;
 
 // A command word other than NOP clears it; an operand and an ignored input leave it.
-pub fn after_word(phase: Phase, word: u32, fault: Fault) -> Fault
+pub fn after_word(phase: Phase, word: u32, fault: Option<u32>) -> Option<u32>
     ensures { result ≡ fault_taken (taken_for phase) word fault }
 {
     match phase {
@@ -18,7 +18,7 @@ pub fn after_word(phase: Phase, word: u32, fault: Fault) -> Fault
             if word == 0 {
                 return fault;
             }
-            Fault::NoFault
+            None
         }
         Phase::Due(_, _, _) => fault,
         Phase::Waiting(_, _, _, _) => fault,
@@ -26,7 +26,7 @@ pub fn after_word(phase: Phase, word: u32, fault: Fault) -> Fault
     }
 }
 
-fn of_bus_error(access: Access, fault: Fault) -> Fault
+fn of_bus_error(access: Access, fault: Option<u32>) -> Option<u32>
     ensures { result ≡ fault_of access fault }
 {
     match access {
@@ -34,11 +34,11 @@ fn of_bus_error(access: Access, fault: Fault) -> Fault
         Access::NoAccess => fault,
         Access::Fetched(_, _, _) => fault,
         Access::Stored(_) => fault,
-        Access::Missing(first) => Fault::FaultAt(first),
+        Access::Missing(first) => Some(first),
     }
 }
 
-pub fn after_work(ending: Ending, access: Access, fault: Fault) -> Fault
+pub fn after_work(ending: Ending, access: Access, fault: Option<u32>) -> Option<u32>
     ensures { result ≡ fault_after ending access fault }
 {
     match ending {

@@ -1,5 +1,5 @@
 -- Events and firing (01, amended by [6] of 02): what a firing gives, SSM, HALT, and a pending SYNC_PC.
-use Rattle.std.specs.Prelude.{ℕ, ◌/◌, ◌%◌, ◌^◌, Bool, false, cond, not, ◌&&◌, ◌||◌, eqb}
+use Rattle.std.specs.Prelude.{ℕ, ◌/◌, ◌%◌, ◌^◌, Bool, false, cond, not, ◌&&◌, ◌||◌, eqb, None, Option, Some}
 use Rattle.board.specs.declared.Status.{Status}
 use Rattle.board.specs.declared.Debug.{Debug}
 use Rattle.board.specs.Setters.{with_halted, with_trg, with_halt, with_bstat, with_sync}
@@ -9,8 +9,6 @@ use Rattle.trigger.specs.declared.Event.{Event}
 use Rattle.board.specs.RegisterBits.{bit}
 use Rattle.trigger.specs.Levels.{level_two}
 use Rattle.trigger.specs.Fired.{fired_level}
-use Rattle.firing.specs.declared.Captured.{Captured}
-use Rattle.firing.specs.declared.Captured.TheVariants.{Nothing, Pc}
 use Rattle.firing.specs.declared.Firing.{Firing}
 use Rattle.firing.specs.declared.Seen.{Seen}
 
@@ -61,8 +59,8 @@ abbrev pub halted : Debug → Event → Firing → Bool
 halted d event f = f.halts || (ssm d || halted_itself d event)
 
 -- "A pending SYNC_PC hands out the next event's PC."
-abbrev pub captured : Bool → ℕ → Captured
-captured sync pc = cond sync (Pc pc) Nothing
+abbrev pub captured : Bool → ℕ → Option ℕ
+captured sync pc = cond sync (Some pc) None
 
 -- "An event's answer: level fired (0, 1, 2), halted by it, interrupt asked, PC captured"; [6] where HALT "halts nothing", "the answer says so"
 unfoldable pub seen : Status → Debug → Event → Firing → Seen

@@ -9,13 +9,6 @@ use board::{Debug, Status};
 use halting::Halting;
 use trigger::Event;
 
-// The PC that a pending SYNC_PC hands out.
-#[derive(Clone, Copy)]
-pub enum Captured {
-    Nothing,
-    Pc(u32),
-}
-
 // The level fired or 0, BSTAT after it, and the response that comes with it.
 #[derive(Clone, Copy)]
 pub struct Firing {
@@ -31,7 +24,7 @@ pub struct Seen {
     pub level: u32,
     pub halted: bool,
     pub interrupt: bool,
-    pub captured: Captured,
+    pub captured: Option<u32>,
     pub halting: Halting,
 }
 
@@ -98,13 +91,13 @@ fn judge_halt(debug: Debug, event: Event) -> Halting
     halting::judge(mark, debug.csr / 0x400 % 2 == 1)
 }
 
-fn capture(sync: bool, pc: u32) -> Captured
+fn capture(sync: bool, pc: u32) -> Option<u32>
     ensures { result ≡ captured sync pc }
 {
     if sync {
-        return Captured::Pc(pc);
+        return Some(pc);
     }
-    Captured::Nothing
+    None
 }
 
 pub fn see(status: Status, debug: Debug, event: Event, fired: Firing) -> Seen

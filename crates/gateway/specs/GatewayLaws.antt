@@ -1,5 +1,7 @@
 -- Laws of what `gateway` writes: a packet that was put stands, and the parts in which it tells what it read are its lines.
-use Rattle.std.specs.Prelude.{ℕ, suc, ◌≤◌, ◌<◌, ◌≡◌, refl, List, [], ◌∷◌, ◌++◌, length, set}
+use Rattle.std.specs.Prelude.{ℕ, suc, ◌≤◌, ◌<◌, ◌≡◌, refl, List, [], ◌∷◌, ◌++◌, length, set, Err, None, Ok, Option, Result, Some}
+use Rattle.grounds.specs.declared.Ground.{Ground}
+use Rattle.readings.specs.declared.Outcome.{Outcome}
 use Rattle.std.proofs.Common.{arith, ap, sym, ◌∙◌, set-set}
 use Rattle.std.proofs.lemmas.List.Edits.{sets}
 use Rattle.std.proofs.lemmas.List.{set_comm}
@@ -8,10 +10,6 @@ use Rattle.console.specs.LineWritingLaws.{laid_on}
 use Rattle.console.specs.InputLines.{lines_served}
 use Rattle.console.specs.GatheringLaws.{joined, EachWithin, Gathering, gathers_line}
 use Rattle.visit.specs.declared.Visit.{Visit}
-use Rattle.visit.specs.declared.Handed.{Handed}
-use Rattle.visit.specs.declared.Handed.TheVariants.{Given, Nothing}
-use Rattle.visit.specs.declared.Started.{Started}
-use Rattle.visit.specs.declared.Started.TheVariants.{Begun, Refused}
 use Rattle.visit.specs.declared.Next.{Next}
 use Rattle.visit.specs.declared.Next.TheVariants.{Send, EndsAsRead, EndsNotRead}
 use Rattle.visit.specs.Visit.{next_of, start_of}
@@ -19,8 +17,6 @@ use Rattle.visit_text.specs.VisitText.{packet_text}
 use Rattle.visit_lines.specs.VisitLines.{packet_line_by, packet_line, result_line}
 use Rattle.visit_lines.specs.VisitPartsMirror.{end_parts}
 use Rattle.visit_lines.specs.VisitLineLaws.{end_joined, end_within}
-use Rattle.reply_lines.specs.declared.TableAsked.{TableAsked}
-use Rattle.reply_lines.specs.declared.TableAsked.TheVariants.{Table, Unclear}
 use Rattle.gateway.specs.Visiting.{Standing, standing, packet_lines, Shows, VisitMeets}
 use Rattle.gateway.specs.Gateway.{no_notes, ending, told_by, told_lines}
 use Rattle.gateway.specs.GatewayMirror.{ResultMeets, told_parts_by, told_parts, HeldMeets}
@@ -56,25 +52,25 @@ held_visit {v} {over} {notes} {left} {buffer} {first} {packet} {text} start m la
     }
 
 -- the parts in which it is told, one behind the other, are the lines, one behind the other; and none of them is cut
-pub told_joined : (room : ℕ) (asked : TableAsked) (brought : List ℕ) → joined (told_parts room asked brought) ≡ joined (told_lines asked brought)
-told_joined room (Table address longwords) brought = by_start (start_of address longwords (length no_notes))
+pub told_joined : (room : ℕ) (asked : Option (ℕ × ℕ)) (brought : List ℕ) → joined (told_parts room asked brought) ≡ joined (told_lines asked brought)
+told_joined room (Some (address, longwords)) brought = by_start (start_of address longwords (length no_notes))
   where
-    by_start : (started : Started) → joined (told_parts_by room started brought) ≡ joined (told_by started brought)
-    by_start (Begun v) = end_joined room (ending v no_notes brought).visit (ending v no_notes brought).notes
-    by_start (Refused why) = refl
-told_joined room Unclear brought = refl
+    by_start : (started : Result Visit Ground) → joined (told_parts_by room started brought) ≡ joined (told_by started brought)
+    by_start (Ok v) = end_joined room (ending v no_notes brought).visit (ending v no_notes brought).notes
+    by_start (Err why) = refl
+told_joined room None brought = refl
 
-pub told_within : (room : ℕ) (asked : TableAsked) (brought : List ℕ) → 128 ≤ room → EachWithin room (told_parts room asked brought)
-told_within room (Table address longwords) brought h = by_start (start_of address longwords (length no_notes))
+pub told_within : (room : ℕ) (asked : Option (ℕ × ℕ)) (brought : List ℕ) → 128 ≤ room → EachWithin room (told_parts room asked brought)
+told_within room (Some (address, longwords)) brought h = by_start (start_of address longwords (length no_notes))
   where
-    by_start : (started : Started) → EachWithin room (told_parts_by room started brought)
-    by_start (Begun v) = end_within room (ending v no_notes brought).visit (ending v no_notes brought).notes h
-    by_start (Refused why) = (omega arith, tt)
-told_within room Unclear brought h = (omega arith, tt)
+    by_start : (started : Result Visit Ground) → EachWithin room (told_parts_by room started brought)
+    by_start (Ok v) = end_within room (ending v no_notes brought).visit (ending v no_notes brought).notes h
+    by_start (Err why) = (omega arith, tt)
+told_within room None brought h = (omega arith, tt)
 
 -- a result's line is gathered, or none
-pub gathers_result : {before text after : List ℕ} {all more : List (List ℕ)} {at end : ℕ} (address j : ℕ) (handed : Handed)
+pub gathers_result : {before text after : List ℕ} {all more : List (List ℕ)} {at end : ℕ} (address j : ℕ) (handed : Option Outcome)
     → Gathering before all text at (result_line address j handed ++ more) → ResultMeets address j handed text at after end
     → Gathering before all after end more
-gathers_result address j (Given outcome) g p = gathers_line g p
-gathers_result address j Nothing g p = rw (p.0, p.1) g
+gathers_result address j (Some outcome) g p = gathers_line g p
+gathers_result address j None g p = rw (p.0, p.1) g

@@ -2,7 +2,7 @@
 // was read goes to standard error when the visit is over. Arguments: none, or ADDRESS LONGWORDS.
 #![tactic(auto)]
 
-ghost use Rattle.std.specs.Prelude.{◌≤◌, ◌<◌, ◌≡◌, length, take};
+ghost use Rattle.std.specs.Prelude.{◌≤◌, ◌<◌, ◌≡◌, length, take, Some};
 ghost use Rattle.text.specs.Text.{Puts, written};
 ghost use Rattle.console.specs.LineReading.{unread_of};
 ghost use Rattle.console.specs.LineWriting.{laid};
@@ -10,16 +10,15 @@ ghost use Rattle.console.specs.GatheringMirror.{place_in};
 ghost use Rattle.visit.specs.HandedOver.{handed_over};
 ghost use Rattle.visit_lines.specs.VisitLines.{packet_line, read_line};
 ghost use Rattle.visit_lines.specs.VisitPartsMirror.{end_parts, read_parts};
-ghost use Rattle.reply_lines.specs.declared.TableAsked.TheVariants.{Table};
 ghost use Rattle.gateway.specs.Visiting.{LineMeets, Shows, VisitMeets};
 ghost use Rattle.gateway.specs.Gateway.{asked_by, AskedMeets, unclear_line};
 ghost use Rattle.gateway.specs.GatewayMirror.{GatewayMeets, HeldMeets, ResultMeets};
 
 use console::{Input, Unread, arguments};
-use reply_lines::{ReplyLine, TableAsked};
+use reply_lines::ReplyLine;
 use std::env::Env;
 use std::io::{Stderr, Stdin, Stdout};
-use visit::{Handed, Next, Started, Visit};
+use visit::{Next, Visit};
 
 // The packet that the visit sends now, if it is not over.
 fn send(output: Stdout, visit: Visit, packet: &mut [u8])
@@ -126,11 +125,11 @@ fn add_result(
 {
     let handed = visit::hand_over(visit, notes, j);
     match handed {
-        Handed::Given(outcome) => {
+        Some(outcome) => {
             let from = console::make_room(errors, text, at);
             visit_text::put_result(text, from, visit.address, j, outcome)
         }
-        Handed::Nothing => at,
+        None => at,
     }
 }
 
@@ -182,20 +181,20 @@ fn tell_unclear(errors: &mut Stderr, text: &mut [u8])
 }
 
 // What so many words ask, the program's name among them, of which two are these.
-fn asked_by(count: usize, address: &[u8], longwords: &[u8]) -> TableAsked
+fn asked_by(count: usize, address: &[u8], longwords: &[u8]) -> Option<(u32, u32)>
     ensures { result ≡ asked_by count address.now longwords.now }
 {
     if count < 2 {
-        return TableAsked::Table(0, 0);
+        return Some((0, 0));
     }
     if count == 3 {
         return reply_lines::read_table(address, longwords);
     }
-    TableAsked::Unclear
+    None
 }
 
 // No word is longer than Linux lets one be, 131,071 bytes.
-fn read_asked<R: Env>(rt: &R) -> TableAsked
+fn read_asked<R: Env>(rt: &R) -> Option<(u32, u32)>
     ensures { AskedMeets result }
 {
     let mut address = [0u8; 131072];
@@ -247,13 +246,13 @@ fn visit_gateway(
     packet: &mut [u8],
     text: &mut [u8],
 )
-    ensures { GatewayMeets (Table address longwords) packet.old text.old packet.new text.new }
+    ensures { GatewayMeets (Some (address, longwords)) packet.old text.old packet.new text.new }
 {
     let mut notes = [0u64; 65563];
     let started = visit::start(address, longwords, &notes);
     match started {
-        Started::Refused(_) => tell_unclear(errors, text),
-        Started::Begun(start) => hold_visit(input, output, errors, start, &mut notes, packet, text),
+        Err(_) => tell_unclear(errors, text),
+        Ok(start) => hold_visit(input, output, errors, start, &mut notes, packet, text),
     }
 }
 
@@ -261,15 +260,15 @@ fn answer(
     input: Stdin,
     output: Stdout,
     errors: &mut Stderr,
-    asked: TableAsked,
+    asked: Option<(u32, u32)>,
     packet: &mut [u8],
     text: &mut [u8],
 )
     ensures { GatewayMeets asked packet.old text.old packet.new text.new }
 {
     match asked {
-        TableAsked::Unclear => tell_unclear(errors, text),
-        TableAsked::Table(address, longwords) => visit_gateway(
+        None => tell_unclear(errors, text),
+        Some((address, longwords)) => visit_gateway(
             input, output, errors, address, longwords, packet, text,
         ),
     }

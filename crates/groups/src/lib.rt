@@ -9,12 +9,6 @@ use comparators::mask::{agrees, turn};
 use comparators::{BusAccess, Level};
 
 #[derive(Clone, Copy)]
-pub enum Bus {
-    Idle,
-    Carries(BusAccess),
-}
-
-#[derive(Clone, Copy)]
 pub struct Group {
     pub enabled: bool,
     pub holds: bool,
@@ -54,12 +48,12 @@ fn agrees_attribute(debug: Debug, attribute: u8) -> bool
     )
 }
 
-fn holds_address(level: Level, debug: Debug, bus: Bus) -> bool
+fn holds_address(level: Level, debug: Debug, bus: Option<BusAccess>) -> bool
     ensures { result ≡ address_holds level debug bus }
 {
     match bus {
-        Bus::Idle => false,
-        Bus::Carries(access) => {
+        None => false,
+        Some(access) => {
             let address = matches_address(level, debug, access.address);
             let attribute = agrees_attribute(debug, access.attribute);
             let held = comparators::holds_data(level, debug, access);
@@ -68,7 +62,7 @@ fn holds_address(level: Level, debug: Debug, bus: Bus) -> bool
     }
 }
 
-pub fn address_group(level: Level, debug: Debug, bus: Bus) -> Group
+pub fn address_group(level: Level, debug: Debug, bus: Option<BusAccess>) -> Group
     ensures { result ≡ address_group level debug bus }
 {
     Group {

@@ -1,10 +1,9 @@
 -- [6] over histories: a board that runs has none of TRG, HALT and BKPT set. So after an event HALT is set exactly if the program halted itself, and TRG exactly
 -- if the breakpoint halted it; and nothing else sets HALT.
-use Rattle.std.specs.Prelude.{ℕ, ◌≡◌, refl, true, false, ◌||◌, List, [], ◌∷◌}
+use Rattle.std.specs.Prelude.{ℕ, ◌≡◌, refl, true, false, ◌||◌, List, [], ◌∷◌, Err, Ok, Result, ⊤}
+use Rattle.grounds.specs.declared.Ground.{Ground}
 use Rattle.std.proofs.Common.{sym, ◌∙◌, subst, true≢false}
 use Rattle.laws.specs.TestLaws.{either, neither}
-use Rattle.grounds.specs.declared.Verdict.{Verdict}
-use Rattle.grounds.specs.declared.Verdict.TheVariants.{Accepted, Refused}
 use Rattle.grounds.specs.Grounds.{if_accepted}
 use Rattle.command.specs.declared.Command.{Command}
 use Rattle.command.specs.declared.DebugRegister.{DebugRegister}
@@ -87,9 +86,9 @@ pub breakpoint_leaves_halt : (b : Board) (p : Place) → (board_after_breakpoint
 unfolding status_pressed
 breakpoint_leaves_halt b p = by (breakpoint_verdict b p) refl
   where
-    by : (v : Verdict) → breakpoint_verdict b p ≡ v → (board_after_breakpoint b p).status.halt ≡ b.status.halt
-    by Accepted e = rw e
-    by (Refused g) e = rw e
+    by : (v : Result ⊤ Ground) → breakpoint_verdict b p ≡ v → (board_after_breakpoint b p).status.halt ≡ b.status.halt
+    by (Ok _) e = rw e
+    by (Err g) e = rw e
 
 -- ---- a board that runs has no flag set
 pub record NoFlag (s : Status) : Type 0 where
@@ -109,7 +108,7 @@ bare_changes = record {
   sync_pc = λ s h runs. let none = h runs in record { trg = none.trg; halt = none.halt; bkpt = none.bkpt };
 }
 
-seen_bare : (b : Board) (p : Place) (e : Event) → event_verdict b p e ≡ Accepted → Bare b.status → Bare (board_after_event b p e).status
+seen_bare : (b : Board) (p : Place) (e : Event) → event_verdict b p e ≡ Ok tt → Bare b.status → Bare (board_after_event b p e).status
 seen_bare b p e accepted h runs =
     let told = halting_of_event b p e accepted in
     let none = h (accepted_while_running b p e accepted) in
@@ -127,19 +126,19 @@ pressed_bare s d h runs =
 call_bare : (s : State) (c : Call) → Bare s.board.status → Bare (after_call stand_in s c).board.status
 call_bare s (packet m word) h = by (packet_verdict (lending s m) word)
   where
-    by : (v : Verdict) → Bare (if_accepted v (stepped (lending s m) word) (lending s m)).board.status
-    by Accepted = packet_status (λ s t. Bare s → Bare t) bare_changes (lending s m) word h
-    by (Refused g) = h
+    by : (v : Result ⊤ Ground) → Bare (if_accepted v (stepped (lending s m) word) (lending s m)).board.status
+    by (Ok _) = packet_status (λ s t. Bare s → Bare t) bare_changes (lending s m) word h
+    by (Err g) = h
 call_bare s (event e) h = by (event_verdict s.board s.place e) refl
   where
-    by : (v : Verdict) → event_verdict s.board s.place e ≡ v → Bare (board_after_event s.board s.place e).status
-    by Accepted a = seen_bare s.board s.place e a h
-    by (Refused g) a = rw a h
+    by : (v : Result ⊤ Ground) → event_verdict s.board s.place e ≡ v → Bare (board_after_event s.board s.place e).status
+    by (Ok _) a = seen_bare s.board s.place e a h
+    by (Err g) a = rw a h
 call_bare s breakpoint h = by (breakpoint_verdict s.board s.place) refl
   where
-    by : (v : Verdict) → breakpoint_verdict s.board s.place ≡ v → Bare (board_after_breakpoint s.board s.place).status
-    by Accepted a = rw a (pressed_bare s.board.status s.board.debug h)
-    by (Refused g) a = rw a h
+    by : (v : Result ⊤ Ground) → breakpoint_verdict s.board s.place ≡ v → Bare (board_after_breakpoint s.board s.place).status
+    by (Ok _) a = rw a (pressed_bare s.board.status s.board.debug h)
+    by (Err g) a = rw a h
 
 calls_bare : (s : State) (calls : List Call) → Bare s.board.status → Bare (after stand_in s calls).board.status
 unfolding after
@@ -161,7 +160,7 @@ module _ (w : ℕ) (history : List Call) where
     -- TRG is set exactly if the breakpoint halted it
     pub trg : s.trg ≡ (firing here.board.status here.board.debug e).halts
 
-  pub flags_tell : (e : Event) → event_verdict here.board here.place e ≡ Accepted → FlagsTell e (board_after_event here.board here.place e).status
+  pub flags_tell : (e : Event) → event_verdict here.board here.place e ≡ Ok tt → FlagsTell e (board_after_event here.board here.place e).status
   flags_tell e accepted =
       let none = running_has_no_flag (accepted_while_running here.board here.place e accepted) in
       let told = halting_of_event here.board here.place e accepted in

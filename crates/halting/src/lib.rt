@@ -11,13 +11,6 @@ pub enum Privilege {
     Supervisor,
 }
 
-// Whether an event's instruction is HALT, and at which privilege.
-#[derive(Clone, Copy)]
-pub enum Mark {
-    Absent,
-    Halt(Privilege),
-}
-
 // What becomes of it: there is no HALT, it halts the processor, or it halts nothing.
 #[derive(Clone, Copy)]
 pub enum Halting {
@@ -44,12 +37,12 @@ fn halt_at(privilege: Privilege, uhe: bool) -> Halting
     Halting::Ignored
 }
 
-pub fn judge(mark: Mark, uhe: bool) -> Halting
+pub fn judge(mark: Option<Privilege>, uhe: bool) -> Halting
     ensures { result ≡ halting mark uhe }
 {
     match mark {
-        Mark::Absent => Halting::NoHalt,
-        Mark::Halt(privilege) => halt_at(privilege, uhe),
+        None => Halting::NoHalt,
+        Some(privilege) => halt_at(privilege, uhe),
     }
 }
 

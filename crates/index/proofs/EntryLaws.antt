@@ -1,10 +1,10 @@
 -- "so that a listing may start there and equal the rest of the full one" (02, [2]): at the trace's own entry of any cycle, inside a transfer and a run too.
-use Rattle.std.specs.Prelude.{◌≡◌, ℕ, ◌+◌, ◌-◌, ◌*◌, ◌≤◌, ◌<◌, List, ◌++◌, length, drop, get_or}
+use Rattle.std.specs.Prelude.{◌≡◌, ℕ, ◌+◌, ◌-◌, ◌*◌, ◌≤◌, ◌<◌, List, ◌++◌, length, drop, get_or, Result}
+use Rattle.trace.specs.declared.Refused.{Refused}
 use Rattle.std.proofs.Common.{ap, sym, ◌∙◌, arith, get_or-append-add}
 use Rattle.std.proofs.Math.ListN.{get_or-append}
 use Rattle.grounds.specs.declared.Ground.TheVariants.{BufferTooShort}
 use Rattle.grounds.specs.Grounds.{number}
-use Rattle.trace.specs.declared.Listing.{Listing}
 use Rattle.cycle.specs.Cycle.{carried_into}
 use Rattle.cycle.specs.declared.Item.{Item}
 use Rattle.trace.specs.Items.{items_before, items, items_to_end, words}
@@ -59,7 +59,7 @@ module _ (trace : List ℕ) (i : ℕ) (within : i ≤ length trace) where
         ≡ too_short (2 * length (rest_at trace i)) room (counted (length (rest_at trace i)))
     only_room room = (read_from trace i (carried_into trace i) room (n - (entry_at trace i).items) (read_on trace i n within reads)).1
 
-    module _ (before : List ℕ) (r : Listing) (after : List ℕ) (met : EntryMeets trace (entry_at trace i) before r after) where
+    module _ (before : List ℕ) (r : Result ℕ Refused) (after : List ℕ) (met : EntryMeets trace (entry_at trace i) before r after) where
       -- without room it is refused with 11, and the buffer stays
       pub entry_refused : length before < 2 * (n - (entry_at trace i).items) → (told_listing r ≡ refusal (number BufferTooShort) 0) × (after ≡ before)
       entry_refused h = (met.answer ∙ short, met.words ∙ ap (words_over (rest_at trace i) before) short)
@@ -87,7 +87,7 @@ module _ (trace : List ℕ) (i : ℕ) (within : i ≤ length trace) where
             ∙ entry_word_lem k
 
 -- a full listing that counts n items holds their words
-full_holds : (trace before full : List ℕ) (s : Listing) (n : ℕ) → ListingMeets trace before s full → told_listing s ≡ counted n
+full_holds : (trace before full : List ℕ) (s : Result ℕ Refused) (n : ℕ) → ListingMeets trace before s full → told_listing s ≡ counted n
     → (k : ℕ) → k < 2 * n → get_or full k 0 ≡ get_or (words (items trace)) k 0
 full_holds trace before full s n whole listed k h =
     ap (λ (w : List ℕ). get_or w k 0) (whole.words ∙ ap (words_after trace before) (sym whole.answer ∙ listed))
@@ -98,8 +98,8 @@ full_holds trace before full s n whole listed k h =
 
 -- THE LAW: where the full listing counts n items, the one from the trace's own entry of a cycle counts the rest, and each word is the full one's
 pub entry_is_the_rest : (trace : List ℕ) (i : ℕ) → i ≤ length trace
-    → (n : ℕ) (given full : List ℕ) (s : Listing) → ListingMeets trace given s full → told_listing s ≡ counted n
-    → (before after : List ℕ) (r : Listing) → EntryMeets trace (entry_at trace i) before r after → 2 * (n - (entry_at trace i).items) ≤ length before
+    → (n : ℕ) (given full : List ℕ) (s : Result ℕ Refused) → ListingMeets trace given s full → told_listing s ≡ counted n
+    → (before after : List ℕ) (r : Result ℕ Refused) → EntryMeets trace (entry_at trace i) before r after → 2 * (n - (entry_at trace i).items) ≤ length before
     → (told_listing r ≡ counted (n - (entry_at trace i).items))
     × ((k : ℕ) → k < 2 * (n - (entry_at trace i).items) → get_or after k 0 ≡ get_or full (2 * (entry_at trace i).items + k) 0)
 entry_is_the_rest trace i within n given full s whole listed before after r met room =

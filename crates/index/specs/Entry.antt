@@ -1,6 +1,6 @@
 -- The index (02, [2]): what an entry says of the cycles before its own, and the word that stands for it.
-use Rattle.std.specs.Prelude.{ℕ, ◌+◌, ◌*◌, ◌/◌, ◌%◌, List, length}
-use Rattle.trace.specs.declared.Listing.{Listing}
+use Rattle.std.specs.Prelude.{ℕ, ◌+◌, ◌*◌, ◌/◌, ◌%◌, List, length, Result}
+use Rattle.trace.specs.declared.Refused.{Refused}
 use Rattle.cycle.specs.Cycle.{carried_into}
 use Rattle.trace.specs.Items.{items_before}
 use Rattle.listing.specs.Listing.{ListingFromMeets}
@@ -19,5 +19,5 @@ abbrev pub of_word : ℕ → ℕ → Entry
 of_word cycle word = record { cycle = cycle; items = word / 4096; carried = record { marker = word / 256 % 16; due = word / 16 % 16; run = word % 16 } }
 
 -- "a listing may start there": what one from an entry promises, for every entry, of whatever trace: the answer, and every word of the buffer
-abbrev pub EntryMeets : List ℕ → Entry → List ℕ → Listing → List ℕ → Type 0
+abbrev pub EntryMeets : List ℕ → Entry → List ℕ → Result ℕ Refused → List ℕ → Type 0
 EntryMeets trace e before r after = ListingFromMeets trace e.cycle e.carried before r after

@@ -4,8 +4,8 @@
 ghost use Rattle.std.specs.Prelude.{◌≡◌};
 ghost use Rattle.index.specs.Entry.{of_word, EntryMeets};
 
+use trace::Refused;
 use cycle::Carried;
-use trace::Listing;
 
 // What stands before a cycle: how many items, and what is under way where the cycle begins.
 #[derive(Clone, Copy)]
@@ -34,7 +34,7 @@ pub fn read_entry(cycle: usize, word: u32) -> Entry
 // The listing from an entry on: of the trace's own entry, the rest of the full one. How many items
 // the entry says are before it is not read. An entry that is not the trace's is taken at its word:
 // the cycles from its own on are judged and listed as if they found what it says.
-pub fn list_from(trace: &[u8], entry: Entry, out: &mut [u32]) -> Listing
+pub fn list_from(trace: &[u8], entry: Entry, out: &mut [u32]) -> Result<usize, Refused>
     ensures { EntryMeets trace.now entry out.old result out.new }
 {
     let found = entry.carried;

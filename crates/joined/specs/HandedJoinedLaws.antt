@@ -1,5 +1,5 @@
 -- What a visit joined with the stand-in hands over: the outcome of each request in turn, and nothing beyond them.
-use Rattle.std.specs.Prelude.{ℕ, zero, suc, ◌+◌, ◌%◌, ◌≤◌, ◌<◌, ◌≡◌, true, ◌||◌, leb, ltb}
+use Rattle.std.specs.Prelude.{ℕ, zero, suc, ◌+◌, ◌%◌, ◌≤◌, ◌<◌, ◌≡◌, true, ◌||◌, leb, ltb, None, Some}
 use Rattle.std.proofs.Common.{arith, ap, sym, ◌∙◌}
 use mathlib.Core.List.{List, [], ◌∷◌, ◌++◌, map}
 use Rattle.std.proofs.Math.ListN.{length, get_or, drop, length-append, length-map, get_or-append, get_or-map}
@@ -15,7 +15,6 @@ use Rattle.sound.specs.Sound.{Sound}
 use Rattle.readings.specs.declared.Outcome.{Outcome}
 use Rattle.readings.specs.declared.Outcome.TheVariants.{Value}
 use Rattle.asked.specs.VisitRequests.{registers_asked, request_at, marked}
-use Rattle.visit.specs.declared.Handed.TheVariants.{Given, Nothing}
 use Rattle.visit.specs.Visit.{table_in_range, note_of, is_illegal}
 use Rattle.visit.specs.HandedOver.{handed_over}
 use Rattle.visit.specs.VisitLaws.{table_whole, Narrow, note_read_back}
@@ -86,7 +85,7 @@ module _ (address longwords : ℕ) (before : List ℕ) (s : State) (f : Sound s)
   visit_narrow = course_narrow (registers_asked + longwords) address 0 (unchained (rest_scene s)) (unchained_sound (rest_keeps_sound rest_budget s f))
 
   pub handed_over_lem : (i : ℕ) → i < length (course_of address longwords s).outcomes
-      → handed_at address longwords before s i ≡ Given (get_or (course_of address longwords s).outcomes i (Value 0))
+      → handed_at address longwords before s i ≡ Some (get_or (course_of address longwords s).outcomes i (Value 0))
   unfolding handed_over
   handed_over_lem i there =
       let r = visit_reads address longwords before s f fits room in
@@ -98,9 +97,9 @@ module _ (address longwords : ℕ) (before : List ℕ) (s : State) (f : Sound s)
       let note : get_or (notes ++ rest) i 0 ≡ note_of (get_or os i (Value 0)) =
       get_or-append notes rest 0 i (omega arith) ∙ get_or-map note_of os i (Value 0) in
       rw (r.read, r.ends, r.notes, lt-ltb i (length os) there, lt-ltb i (length (notes ++ rest)) long, note)
-      (ap Given (note_read_back (get_or os i (Value 0)) (narrow_at os i visit_narrow)))
+      (ap Some (note_read_back (get_or os i (Value 0)) (narrow_at os i visit_narrow)))
 
-  pub nothing_beyond : (i : ℕ) → length (course_of address longwords s).outcomes ≤ i → handed_at address longwords before s i ≡ Nothing
+  pub nothing_beyond : (i : ℕ) → length (course_of address longwords s).outcomes ≤ i → handed_at address longwords before s i ≡ None
   unfolding handed_over
   nothing_beyond i beyond =
       let r = visit_reads address longwords before s f fits room in
@@ -153,15 +152,15 @@ module _ (address longwords : ℕ) (before : List ℕ) (s : State) (f : Sound s)
   -- The registers of that board are handed over, the longwords of that memory, and nothing else.
   pub visit_hands : VisitHands address longwords before s
   visit_hands = record {
-    register = λ j less. handed_over_lem j (omega (arith, counted)) ∙ ap Given (register_at is j (Value 0) less);
+    register = λ j less. handed_over_lem j (omega (arith, counted)) ∙ ap Some (register_at is j (Value 0) less);
     word = λ k less here.
         handed_over_lem (registers_asked + k) (omega (arith, counted, all_there, table.there k less here))
-        ∙ ap Given (longword_at is whole k (Value 0) less here);
+        ∙ ap Some (longword_at is whole k (Value 0) less here);
     missing = λ k less before-it gone.
         let it = first_missing k less before-it gone in
         let short : there < longwords = omega arith in
         handed_over_lem (registers_asked + k) (omega (arith, counted, missing_asked short))
-        ∙ ap Given (table_at is k (Value 0) ∙ rw (sym it) (table.missing (Value 0) short));
+        ∙ ap Some (table_at is k (Value 0) ∙ rw (sym it) (table.missing (Value 0) short));
     behind = λ i k gone later. nothing_beyond (registers_asked + k) (omega (arith, counted, no_more, missing_from i gone));
     beyond = λ k past. nothing_beyond (registers_asked + k) (omega (arith, counted, none_beyond));
   }

@@ -1,5 +1,6 @@
 -- Laws: after a NOP the port's next reply is not "illegal", whatever it finds: only a rejected word is answered so, and a NOP never is rejected.
-use Rattle.std.specs.Prelude.{ℕ, ◌-◌, ◌%◌, ◌≤◌, ◌≡◌, refl, Bool, true, false, eqb}
+use Rattle.std.specs.Prelude.{ℕ, ◌-◌, ◌%◌, ◌≤◌, ◌≡◌, refl, Bool, true, false, eqb, None, Option, Some}
+use Rattle.memory.specs.declared.Size.{Size}
 use Rattle.std.proofs.Common.{arith}
 use Rattle.laws.specs.TestLaws.{either}
 use Rattle.memory.specs.declared.Size.TheVariants.{Byte, Word, Long}
@@ -25,8 +26,6 @@ use Rattle.plan.specs.PlanLaws.{nop_plan}
 use Rattle.control.specs.Control.{control_fetched}
 use Rattle.step.specs.StepFaultLaws.{step_place}
 use Rattle.step.specs.Step.{reply_in, reply_now, left, plan_for, stepped}
-use Rattle.requests.specs.declared.ResultKind.{ResultKind}
-use Rattle.requests.specs.declared.ResultKind.TheVariants.{NoResult, OfSize}
 use Rattle.sound.specs.Sound.{Sound}
 use Rattle.sound.specs.SoundPlanLaws.{PlanWithin, plan_within}
 use Rattle.round_trip.specs.Meaning.{Scene}
@@ -35,17 +34,17 @@ use Rattle.round_trip.specs.ClosesLaws.{Fits}
 use Rattle.round_trip.proofs.MeantWorkLaws.{word_cleared, work_ending, Sized, sound_is_sized, load_meant, store_meant, read_control_meant, csr_fits}
 
 -- ---- the work's first reply is data, "complete" or a bus error
-fits_no_illegal : (kind : ResultKind) (e : Ending) → Fits kind e → first_reply e ≤ bus_error
+fits_no_illegal : (kind : Option Size) (e : Ending) → Fits kind e → first_reply e ≤ bus_error
 fits_no_illegal kind Complete h = omega arith
 fits_no_illegal kind Failed h = omega arith
-fits_no_illegal NoResult (OneWord v) h = absurd h
-fits_no_illegal (OfSize Byte) (OneWord v) h = omega arith
-fits_no_illegal (OfSize Word) (OneWord v) h = omega arith
-fits_no_illegal (OfSize Long) (OneWord v) h = absurd h
-fits_no_illegal NoResult (TwoWords v) h = absurd h
-fits_no_illegal (OfSize Byte) (TwoWords v) h = absurd h
-fits_no_illegal (OfSize Word) (TwoWords v) h = absurd h
-fits_no_illegal (OfSize Long) (TwoWords v) h = omega arith
+fits_no_illegal None (OneWord v) h = absurd h
+fits_no_illegal (Some Byte) (OneWord v) h = omega arith
+fits_no_illegal (Some Word) (OneWord v) h = omega arith
+fits_no_illegal (Some Long) (OneWord v) h = absurd h
+fits_no_illegal None (TwoWords v) h = absurd h
+fits_no_illegal (Some Byte) (TwoWords v) h = absurd h
+fits_no_illegal (Some Word) (TwoWords v) h = absurd h
+fits_no_illegal (Some Long) (TwoWords v) h = omega arith
 
 change_no_illegal : (t : Bool) → first_reply (change_ending t) ≤ bus_error
 change_no_illegal true = omega arith
@@ -59,16 +58,16 @@ module _ (s : Scene) (sized : Sized s) (address : ℕ) where
   unfolding control_fetched
   shown_no_illegal (source.General n) = omega (arith, sized.general (n % 16))
   shown_no_illegal source.Control =
-      fits_no_illegal (OfSize Long) (work_ending (Show source.Control) address s) ((read_control_meant s address 0).fits cleared_sized)
+      fits_no_illegal (Some Long) (work_ending (Show source.Control) address s) ((read_control_meant s address 0).fits cleared_sized)
   shown_no_illegal source.Csr = omega (arith, csr_fits s.board)
 
   work_no_illegal : (c : Command) → first_reply (work_ending c address s) ≤ bus_error
   work_no_illegal Unknown = omega arith
   work_no_illegal Nop = omega arith
   work_no_illegal (Load size base) =
-      fits_no_illegal (OfSize size) (work_ending (Load size base) address s) ((load_meant size s base address 0).fits cleared_sized)
+      fits_no_illegal (Some size) (work_ending (Load size base) address s) ((load_meant size s base address 0).fits cleared_sized)
   work_no_illegal (Store size base) =
-      fits_no_illegal NoResult (work_ending (Store size base) address s) ((store_meant size s base address 0).fits cleared_sized)
+      fits_no_illegal None (work_ending (Store size base) address s) ((store_meant size s base address 0).fits cleared_sized)
   work_no_illegal (Show from) = shown_no_illegal from
   work_no_illegal (Change target) = change_no_illegal (reached target address)
 

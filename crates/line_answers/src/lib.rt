@@ -5,7 +5,6 @@ ghost use Rattle.line_answers.specs.LineSaid.{LineMeets};
 
 use answers::{Answered, Bench};
 use board_lines::BoardLine;
-use groups::Bus;
 use refusal_text::put_unclear;
 use trigger::Event;
 
@@ -34,7 +33,7 @@ pub fn answer_line(
         BoardLine::Event(pc, mark) => answers::watch(
             Event {
                 pc: pc,
-                bus: Bus::Idle,
+                bus: None,
                 mark: mark,
             },
             bench,

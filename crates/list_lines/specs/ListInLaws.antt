@@ -1,13 +1,11 @@
 -- Laws of the list in an input: by its head, and by its lines.
-use Rattle.std.specs.Prelude.{◌≡◌, refl, ℕ, zero, suc, ◌+◌, ◌≤◌, ◌<◌, Bool, true, false, List, [], ltb, length, drop}
+use Rattle.std.specs.Prelude.{◌≡◌, refl, ℕ, zero, suc, ◌+◌, ◌≤◌, ◌<◌, Bool, true, false, List, [], ltb, length, drop, None, Option, Some}
 use Rattle.std.proofs.Common.{ap, sym, ◌∙◌, arith, length-drop}
 use Rattle.std.proofs.lemmas.Bool.{false≢true}
 use Rattle.std.proofs.lemmas.List.Edits.{sets}
 use borrow.Author.Tests.{lt-ltb, le-ltb, ltb-true, ltb-false}
 use Rattle.laws.specs.TestLaws.{by_test}
 use Rattle.laws.specs.Ascii.{ascii}
-use Rattle.list_lines.specs.declared.Field.{Field}
-use Rattle.list_lines.specs.declared.Field.TheVariants.{Read, Unread}
 use Rattle.list_lines.specs.declared.Lines.{Lines}
 use Rattle.list_lines.specs.declared.ListRead.{ListRead}
 use Rattle.list_lines.specs.ListLines.{named, line_word, Listed, lines_with, lines_in, ListIn, no_list, list_behind, list_in, unlisted, LinesMeet, ListMeets}
@@ -15,16 +13,16 @@ use Rattle.list_lines.specs.ListLinesLaws.{named_took, lines_used}
 
 -- a head that is none, in its first part or its second, and one with more lines than there is room for
 module _ (room : ℕ) (bytes : List ℕ) where
-  pub no_cycles : named (ascii "mended cycles=") 65536 32 bytes ≡ Unread → list_in room bytes ≡ no_list []
+  pub no_cycles : named (ascii "mended cycles=") 65536 32 bytes ≡ None → list_in room bytes ≡ no_list []
   unfolding list_in
   no_cycles e = rw e
 
-  module _ {cycles used : ℕ} (e : named (ascii "mended cycles=") 65536 32 bytes ≡ Read cycles used) where
-    pub no_changed : named (ascii "changed=") 65536 10 (drop used bytes) ≡ Unread → list_in room bytes ≡ no_list []
+  module _ {cycles used : ℕ} (e : named (ascii "mended cycles=") 65536 32 bytes ≡ Some (cycles, used)) where
+    pub no_changed : named (ascii "changed=") 65536 10 (drop used bytes) ≡ None → list_in room bytes ≡ no_list []
     unfolding list_in
     no_changed f = rw (e, f)
 
-    module _ {changed more : ℕ} (f : named (ascii "changed=") 65536 10 (drop used bytes) ≡ Read changed more) where
+    module _ {changed more : ℕ} (f : named (ascii "changed=") 65536 10 (drop used bytes) ≡ Some (changed, more)) where
       pub no_places : room < changed → list_in room bytes ≡ no_list []
       unfolding list_in
       no_places h = rw (e, f, lt-ltb room changed h)
@@ -60,10 +58,10 @@ unfolding lines_in
 lines_count zero bytes = λ e. refl
 lines_count (suc k) bytes = by_line (line_word bytes) (λ used. lines_count k (drop used bytes))
   where
-    by_line : (f : Field) → ((used : ℕ) → (lines_in k (drop used bytes)).all ≡ true → length (lines_in k (drop used bytes)).words ≡ k)
+    by_line : (f : Option (ℕ × ℕ)) → ((used : ℕ) → (lines_in k (drop used bytes)).all ≡ true → length (lines_in k (drop used bytes)).words ≡ k)
         → (lines_with (lines_in k) bytes f).all ≡ true → length (lines_with (lines_in k) bytes f).words ≡ suc k
-    by_line (Read word used) rest e = ap suc (rest used e)
-    by_line Unread rest e = absurd (false≢true e)
+    by_line (Some (word, used)) rest e = ap suc (rest used e)
+    by_line None rest e = absurd (false≢true e)
 
 -- a list that is clear: its words are as many as it says, fit the buffer, and stand before the trace
 pub record ClearList (told : ListIn) (room bytes : ℕ) : Type 0 where
@@ -97,9 +95,9 @@ clear_list room bytes c = by_cycles (named (ascii "mended cycles=") 65536 32 byt
     none : list_in room bytes ≡ no_list [] → ClearList (list_in room bytes) room (length bytes)
     none e = absurd (false≢true (rw e at c))
 
-    by_changed : {cycles used : ℕ} → named (ascii "mended cycles=") 65536 32 bytes ≡ Read cycles used
-        → (f : Field) → named (ascii "changed=") 65536 10 (drop used bytes) ≡ f → ClearList (list_in room bytes) room (length bytes)
-    by_changed {cycles} {used} e (Read changed more) f =
+    by_changed : {cycles used : ℕ} → named (ascii "mended cycles=") 65536 32 bytes ≡ Some (cycles, used)
+        → (f : Option (ℕ × ℕ)) → named (ascii "changed=") 65536 10 (drop used bytes) ≡ f → ClearList (list_in room bytes) room (length bytes)
+    by_changed {cycles} {used} e (Some (changed, more)) f =
         by_test (ltb room changed)
         (λ t. none (no_places room bytes e f (ltb-true room changed t)))
         (λ t. let fits = ltb-false room changed t in
@@ -107,8 +105,8 @@ clear_list room bytes c = by_cycles (named (ascii "mended cycles=") 65536 32 byt
         let one = named_took (ascii "mended cycles=") 65536 32 bytes cycles used e in
         let two = named_took (ascii "changed=") 65536 10 (drop used bytes) changed more f in
         rw is (clear_behind room cycles changed (used + more) bytes fits (omega (arith, length-drop used bytes)) (rw is at c)))
-    by_changed e Unread f = none (no_changed room bytes e f)
+    by_changed e None f = none (no_changed room bytes e f)
 
-    by_cycles : (f : Field) → named (ascii "mended cycles=") 65536 32 bytes ≡ f → ClearList (list_in room bytes) room (length bytes)
-    by_cycles (Read cycles used) e = by_changed e (named (ascii "changed=") 65536 10 (drop used bytes)) refl
-    by_cycles Unread e = none (no_cycles room bytes e)
+    by_cycles : (f : Option (ℕ × ℕ)) → named (ascii "mended cycles=") 65536 32 bytes ≡ f → ClearList (list_in room bytes) room (length bytes)
+    by_cycles (Some (cycles, used)) e = by_changed e (named (ascii "changed=") 65536 10 (drop used bytes)) refl
+    by_cycles None e = none (no_cycles room bytes e)

@@ -1,47 +1,45 @@
 -- The list of `mend` read back (docs/mend.md, `unmend`): its head, its lines, and where the trace begins behind them.
-use Rattle.std.specs.Prelude.{◌≡◌, ℕ, zero, suc, ◌+◌, ◌-◌, ◌*◌, Bool, true, false, cond, List, [], ◌∷◌, eqb, ltb, length, take, drop}
+use Rattle.std.specs.Prelude.{◌≡◌, ℕ, zero, suc, ◌+◌, ◌-◌, ◌*◌, Bool, true, false, cond, List, [], ◌∷◌, eqb, ltb, length, take, drop, None, Option, Some}
 use Rattle.std.proofs.lemmas.List.Edits.{sets}
 use Rattle.laws.specs.Ascii.{ascii}
 use Rattle.same.specs.SameList.{same}
-use Rattle.list_lines.specs.declared.Field.{Field}
-use Rattle.list_lines.specs.declared.Field.TheVariants.{Read, Unread}
 use Rattle.list_lines.specs.declared.Lines.{Lines}
 use Rattle.list_lines.specs.declared.ListRead.{ListRead}
 
 -- "decimal digits, leading zeros allowed", at most so much, and the byte that ends them: where so many bytes before have made a value
-unfoldable pub digits : ℕ → ℕ → ℕ → ℕ → List ℕ → Field
-digits most end value used [] = Unread
+unfoldable pub digits : ℕ → ℕ → ℕ → ℕ → List ℕ → Option (ℕ × ℕ)
+digits most end value used [] = None
 digits most end value used (byte ∷ bytes) =
-    cond (eqb byte end) (Read value (used + 1))
-    (cond (ltb byte 48) Unread
-    (cond (ltb 57 byte) Unread
-    (cond (ltb most (value * 10 + (byte - 48))) Unread
+    cond (eqb byte end) (Some (value, used + 1))
+    (cond (ltb byte 48) None
+    (cond (ltb 57 byte) None
+    (cond (ltb most (value * 10 + (byte - 48))) None
     (digits most end (value * 10 + (byte - 48)) (used + 1) bytes))))
 
 -- "one or more": the byte that ends them is not the first
-unfoldable pub number : ℕ → ℕ → List ℕ → Field
-number most end [] = Unread
-number most end (byte ∷ bytes) = cond (eqb byte end) Unread (digits most end 0 0 (byte ∷ bytes))
+unfoldable pub number : ℕ → ℕ → List ℕ → Option (ℕ × ℕ)
+number most end [] = None
+number most end (byte ∷ bytes) = cond (eqb byte end) None (digits most end 0 0 (byte ∷ bytes))
 
 -- the same, where so many bytes were read before it
-abbrev pub behind : ℕ → Field → Field
-behind used (Read value more) = Read value (used + more)
-behind used Unread = Unread
+abbrev pub behind : ℕ → Option (ℕ × ℕ) → Option (ℕ × ℕ)
+behind used (Some (value, more)) = Some (value, used + more)
+behind used None = None
 
 -- "with one space between the words, and nothing else": a name to the byte, and the number behind it
-unfoldable pub named : List ℕ → ℕ → ℕ → List ℕ → Field
-named name most end bytes = cond (same (take (length name) bytes) name) (behind (length name) (number most end (drop (length name) bytes))) Unread
+unfoldable pub named : List ℕ → ℕ → ℕ → List ℕ → Option (ℕ × ℕ)
+named name most end bytes = cond (same (take (length name) bytes) name) (behind (length name) (number most end (drop (length name) bytes))) None
 
 -- "a line `C P` with its line feed": C at most 65,535, P at most 15, as the list's word
-abbrev pub word_with : ℕ → ℕ → Field → Field
-word_with cycle used (Read pst more) = Read (cycle * 16 + pst) (used + more)
-word_with cycle used Unread = Unread
+abbrev pub word_with : ℕ → ℕ → Option (ℕ × ℕ) → Option (ℕ × ℕ)
+word_with cycle used (Some (pst, more)) = Some (cycle * 16 + pst, used + more)
+word_with cycle used None = None
 
-abbrev pub word_behind : List ℕ → Field → Field
-word_behind bytes (Read cycle used) = word_with cycle used (number 15 10 (drop used bytes))
-word_behind bytes Unread = Unread
+abbrev pub word_behind : List ℕ → Option (ℕ × ℕ) → Option (ℕ × ℕ)
+word_behind bytes (Some (cycle, used)) = word_with cycle used (number 15 10 (drop used bytes))
+word_behind bytes None = None
 
-unfoldable pub line_word : List ℕ → Field
+unfoldable pub line_word : List ℕ → Option (ℕ × ℕ)
 line_word bytes = word_behind bytes (number 65535 32 bytes)
 
 -- "K times a line": their words as far as they are lines, how many bytes those take, and whether there are K
@@ -56,9 +54,9 @@ listed words used all = record { words = words; used = used; all = all }
 abbrev pub more : ℕ → ℕ → Listed → Listed
 more word used rest = listed (word ∷ rest.words) (used + rest.used) rest.all
 
-abbrev pub lines_with : (List ℕ → Listed) → List ℕ → Field → Listed
-lines_with rest bytes (Read word used) = more word used (rest (drop used bytes))
-lines_with rest bytes Unread = listed [] 0 false
+abbrev pub lines_with : (List ℕ → Listed) → List ℕ → Option (ℕ × ℕ) → Listed
+lines_with rest bytes (Some (word, used)) = more word used (rest (drop used bytes))
+lines_with rest bytes None = listed [] 0 false
 
 unfoldable pub lines_in : ℕ → List ℕ → Listed
 lines_in zero bytes = listed [] 0 true
@@ -82,14 +80,14 @@ list_behind cycles changed used lines =
     cond lines.all (record { clear = true; cycles = cycles; changed = changed; from = used + lines.used; words = lines.words }) (no_list lines.words)
 
 -- a buffer with fewer places than there are lines takes none
-abbrev pub changed_behind : ℕ → List ℕ → ℕ → ℕ → Field → ListIn
-changed_behind room bytes cycles used (Read changed more) =
+abbrev pub changed_behind : ℕ → List ℕ → ℕ → ℕ → Option (ℕ × ℕ) → ListIn
+changed_behind room bytes cycles used (Some (changed, more)) =
     cond (ltb room changed) (no_list []) (list_behind cycles changed (used + more) (lines_in changed (drop (used + more) bytes)))
-changed_behind room bytes cycles used Unread = no_list []
+changed_behind room bytes cycles used None = no_list []
 
-abbrev pub cycles_behind : ℕ → List ℕ → Field → ListIn
-cycles_behind room bytes (Read cycles used) = changed_behind room bytes cycles used (named (ascii "changed=") 65536 10 (drop used bytes))
-cycles_behind room bytes Unread = no_list []
+abbrev pub cycles_behind : ℕ → List ℕ → Option (ℕ × ℕ) → ListIn
+cycles_behind room bytes (Some (cycles, used)) = changed_behind room bytes cycles used (named (ascii "changed=") 65536 10 (drop used bytes))
+cycles_behind room bytes None = no_list []
 
 -- "N and K are at most 65,536"
 unfoldable pub list_in : ℕ → List ℕ → ListIn

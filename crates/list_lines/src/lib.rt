@@ -4,13 +4,6 @@
 ghost use Rattle.std.specs.Prelude.{◌≡◌, ◌≤◌, length, drop};
 ghost use Rattle.list_lines.specs.ListLines.{digits, number, named, line_word, lines_in, list_behind, list_in, unlisted, LinesMeet, ListMeets};
 
-// A number, and how many bytes it took with the one that ends it.
-#[derive(Clone, Copy)]
-pub enum Field {
-    Read(u32, usize),
-    Unread,
-}
-
 // How many bytes the lines take, and whether there are as many as were asked for.
 #[derive(Clone, Copy)]
 pub struct Lines {
@@ -28,7 +21,7 @@ pub struct ListRead {
 }
 
 // Decimal digits up to a byte that ends them.
-fn read_digits(bytes: &[u8], most: u32, end: u8) -> Field
+fn read_digits(bytes: &[u8], most: u32, end: u8) -> Option<(u32, usize)>
     ensures { result ≡ digits most end 0 0 bytes.now }
 {
     let mut value = 0u64;
@@ -36,63 +29,63 @@ fn read_digits(bytes: &[u8], most: u32, end: u8) -> Field
     while i < bytes.len() {
         let byte = bytes[i];
         if byte == end {
-            return Field::Read(value as u32, i + 1);
+            return Some((value as u32, i + 1));
         }
         if byte < b'0' {
-            return Field::Unread;
+            return None;
         }
         if b'9' < byte {
-            return Field::Unread;
+            return None;
         }
         value = value * 10 + (byte - b'0') as u64;
         if (most as u64) < value {
-            return Field::Unread;
+            return None;
         }
         i += 1;
     }
-    Field::Unread
+    None
 }
 
 // At least one of them.
-fn read_number(bytes: &[u8], most: u32, end: u8) -> Field
+fn read_number(bytes: &[u8], most: u32, end: u8) -> Option<(u32, usize)>
     ensures { result ≡ number most end bytes.now }
 {
     if bytes.len() == 0 {
-        return Field::Unread;
+        return None;
     }
     if bytes[0] == end {
-        return Field::Unread;
+        return None;
     }
     read_digits(bytes, most, end)
 }
 
 // A name to the byte, and the number behind it.
-fn read_named(bytes: &[u8], name: &[u8], most: u32, end: u8) -> Field
+fn read_named(bytes: &[u8], name: &[u8], most: u32, end: u8) -> Option<(u32, usize)>
     ensures { result ≡ named name.now most end bytes.now }
 {
     let n = name.len();
     if same::is_same(parts::front(bytes, n), name) {
         let read = read_number(parts::rest(bytes, n), most, end);
         return match read {
-            Field::Read(value, used) => Field::Read(value, n + used),
-            Field::Unread => Field::Unread,
+            Some((value, used)) => Some((value, n + used)),
+            None => None,
         };
     }
-    Field::Unread
+    None
 }
 
 // A line, as the list's word.
-fn read_line(bytes: &[u8]) -> Field
+fn read_line(bytes: &[u8]) -> Option<(u32, usize)>
     ensures { result ≡ line_word bytes.now }
 {
     let first = read_number(bytes, 65535, b' ');
-    let Field::Read(cycle, used) = first else {
-        return Field::Unread;
+    let Some((cycle, used)) = first else {
+        return None;
     };
     let second = read_number(parts::rest(bytes, used), 15, b'\n');
     match second {
-        Field::Read(pst, more) => Field::Read(cycle * 16 + pst, used + more),
-        Field::Unread => Field::Unread,
+        Some((pst, more)) => Some((cycle * 16 + pst, used + more)),
+        None => None,
     }
 }
 
@@ -106,13 +99,13 @@ fn read_lines(bytes: &[u8], count: usize, list: &mut [u32]) -> Lines
     while k < count {
         let line = read_line(parts::rest(bytes, at));
         match line {
-            Field::Unread => {
+            None => {
                 return Lines {
                     used: at,
                     all: false,
                 };
             }
-            Field::Read(word, used) => {
+            Some((word, used)) => {
                 list[k] = word;
                 at += used;
                 k += 1;
@@ -158,11 +151,11 @@ pub fn read_list(bytes: &[u8], list: &mut [u32]) -> ListRead
     ensures { ListMeets (list_in (length list.old) bytes.now) list.old result list.new }
 {
     let first = read_named(bytes, b"mended cycles=", 65536, b' ');
-    let Field::Read(cycles, used) = first else {
+    let Some((cycles, used)) = first else {
         return no_list();
     };
     let second = read_named(parts::rest(bytes, used), b"changed=", 65536, b'\n');
-    let Field::Read(changed, more) = second else {
+    let Some((changed, more)) = second else {
         return no_list();
     };
     if list.len() < changed as usize {

@@ -1,11 +1,10 @@
 -- Laws of the lister's lines in one: item by item, and the words of a trace that is listed.
-use Rattle.std.specs.Prelude.{ℕ, ◌+◌, ◌*◌, ◌/◌, ◌≤◌, ◌<◌, ◌≡◌, refl, List, [], ◌∷◌, ◌++◌, length, get_or, take, drop}
+use Rattle.std.specs.Prelude.{ℕ, ◌+◌, ◌*◌, ◌/◌, ◌≤◌, ◌<◌, ◌≡◌, refl, List, [], ◌∷◌, ◌++◌, length, get_or, take, drop, Err, Ok, Result}
+use Rattle.trace.specs.declared.Refused.{Refused}
 use Rattle.std.proofs.Math.Path.{ap}
 use Rattle.std.proofs.Common.{sym, ◌∙◌, arith, length-append, length-drop, take_at}
 use Rattle.laws.specs.PlaceLaws.{from_here}
 use Rattle.grounds.specs.declared.Ground.{Ground}
-use Rattle.trace.specs.declared.Listing.{Listing}
-use Rattle.trace.specs.declared.Listing.TheVariants.{Items, Refused}
 use Rattle.trace.specs.Items.{items, words}
 use Rattle.trace.specs.ItemLaws.{length_words}
 use Rattle.trace.specs.TraceReading.{counted, told_listing}
@@ -39,12 +38,12 @@ items_out words k h = by_rest (drop (2 * k) words) (omega (arith, length-drop (2
     by_rest (word ∷ value ∷ more) h = absurd (omega arith)
 
 -- what the lister refuses, and what it lists: the items' words at the front of the buffer
-module _ (trace before after : List ℕ) (r : Listing) (m : ListingMeets trace before r after) where
-  pub refused_text : (why : Ground) (cycle : ℕ) → r ≡ Refused why cycle → listed_text trace (length before) ≡ refused_at why cycle
+module _ (trace before after : List ℕ) (r : Result ℕ Refused) (m : ListingMeets trace before r after) where
+  pub refused_text : (why : Ground) (cycle : ℕ) → r ≡ Err (record { ground = why; cycle = cycle }) → listed_text trace (length before) ≡ refused_at why cycle
   unfolding listed_text
   refused_text why cycle e = ap (told_text trace) (sym m.answer ∙ ap told_listing e)
 
-  module _ (n : ℕ) (e : r ≡ Items n) where
+  module _ (n : ℕ) (e : r ≡ Ok n) where
     told : listing trace (length before) ≡ counted n
     told = sym m.answer ∙ ap told_listing e
 

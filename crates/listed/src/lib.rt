@@ -6,10 +6,10 @@ ghost use Rattle.listing.specs.Listing.{listing, words_after};
 ghost use Rattle.text.specs.Text.{Puts};
 ghost use Rattle.listed.specs.Listed.{items_text, listed_text};
 
+use trace::Refused;
 use refusal_text::put_refusal_at;
 use text::listing::{put_head, put_item};
 use text::put_text;
-use trace::Listing;
 
 fn put_items(words: &[u32], text: &mut [u8], from: usize) -> usize
     ensures { Puts text.old from (items_text words.now) text.new result }
@@ -31,8 +31,8 @@ pub fn put_listing(trace: &[u8], words: &mut [u32], text: &mut [u8]) -> usize
         × (words.new ≡ words_after trace.now words.old (listing trace.now (length words.old))) }
 {
     match listing::list_trace(trace, words) {
-        Listing::Refused { ground, cycle } => put_refusal_at(text, ground, cycle),
-        Listing::Items(items) => {
+        Err(Refused { ground, cycle }) => put_refusal_at(text, ground, cycle),
+        Ok(items) => {
             let at = put_head(text, trace.len(), items);
             let end = 2 * items;
             put_items(&words[..end], text, at)

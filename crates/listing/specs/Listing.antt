@@ -1,8 +1,8 @@
 -- Recorded cycles (01), the listing: what it answers and leaves in the buffer: of a whole trace, or from one of its cycles on (02, [2]).
-use Rattle.std.specs.Prelude.{◌≡◌, ℕ, ◌*◌, List, ◌++◌, length, drop}
+use Rattle.std.specs.Prelude.{◌≡◌, ℕ, ◌*◌, List, ◌++◌, length, drop, Result}
+use Rattle.trace.specs.declared.Refused.{Refused}
 use Rattle.cycle.specs.declared.Carried.{Carried}
 use Rattle.cycle.specs.declared.Item.{Item}
-use Rattle.trace.specs.declared.Listing.{Listing}
 use Rattle.trace.specs.Items.{items, items_to_end, words}
 use Rattle.trace.specs.TraceReading.{Told, refusal, counted, told_listing, too_short, judged_from, judged}
 
@@ -23,14 +23,14 @@ abbrev pub words_after : List ℕ → List ℕ → Told → List ℕ
 words_after trace before answer = words_over (items trace) before answer
 
 -- what a listing promises, for every trace and every buffer
-pub record ListingMeets (trace before : List ℕ) (r : Listing) (after : List ℕ) : Type 0 where
+pub record ListingMeets (trace before : List ℕ) (r : Result ℕ Refused) (after : List ℕ) : Type 0 where
   -- the answer's number and values are 01's
   pub answer : told_listing r ≡ listing trace (length before)
   -- every word of the buffer
   pub words : after ≡ words_after trace before (listing trace (length before))
 
 -- what a listing that starts at a cycle promises, for every cycle and whatever it is said to find under way
-pub record ListingFromMeets (trace : List ℕ) (i : ℕ) (c : Carried) (before : List ℕ) (r : Listing) (after : List ℕ) : Type 0 where
+pub record ListingFromMeets (trace : List ℕ) (i : ℕ) (c : Carried) (before : List ℕ) (r : Result ℕ Refused) (after : List ℕ) : Type 0 where
   -- the answer's number and values are 01's
   pub answer : told_listing r ≡ listing_from trace i c (length before)
   -- every word of the buffer

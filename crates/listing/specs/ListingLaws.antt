@@ -1,9 +1,9 @@
 -- Laws of the listing: the buffer's part, the promise from the answer alone, and the whole as a start at the first cycle.
-use Rattle.std.specs.Prelude.{◌≡◌, ℕ, ◌*◌, List, length}
+use Rattle.std.specs.Prelude.{◌≡◌, ℕ, ◌*◌, List, length, Result}
+use Rattle.trace.specs.declared.Refused.{Refused}
 use Rattle.std.proofs.Common.{ap, ◌∙◌}
 use Rattle.cycle.specs.declared.Carried.{Carried}
 use Rattle.cycle.specs.Cycle.{nothing}
-use Rattle.trace.specs.declared.Listing.{Listing}
 use Rattle.trace.specs.Items.{items, items_to_end}
 use Rattle.trace.specs.ItemsFromLaws.{items_whole}
 use Rattle.trace.specs.TraceReading.{refusal, counted, told_listing, too_short, reading, reading_from}
@@ -33,11 +33,11 @@ unfolding listing_from listing
 listing_whole trace room = rw (items_whole trace)
 
 -- the promise, from the answer alone
-pub listing_meets : (trace : List ℕ) (i : ℕ) (c : Carried) (before after : List ℕ) (r : Listing) → told_listing r ≡ listing_from trace i c (length before)
+pub listing_meets : (trace : List ℕ) (i : ℕ) (c : Carried) (before after : List ℕ) (r : Result ℕ Refused) → told_listing r ≡ listing_from trace i c (length before)
     → after ≡ words_over (items_to_end trace i c) before (told_listing r) → ListingFromMeets trace i c before r after
 listing_meets trace i c before after r e f = record { answer = e; words = f ∙ ap (words_over (items_to_end trace i c) before) e }
 
 -- a listing from the first cycle on, with nothing under way, is the listing of the trace
-pub whole_meets : {trace before after : List ℕ} {r : Listing} → ListingFromMeets trace 0 nothing before r after → ListingMeets trace before r after
+pub whole_meets : {trace before after : List ℕ} {r : Result ℕ Refused} → ListingFromMeets trace 0 nothing before r after → ListingMeets trace before r after
 whole_meets {trace} {before} m =
     record { answer = m.answer ∙ listing_whole trace (length before); words = rw (items_whole trace, listing_whole trace (length before)) at m.words }

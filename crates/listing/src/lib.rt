@@ -8,9 +8,9 @@ ghost use Rattle.trace.specs.Items.{items_to_end, words};
 ghost use Rattle.listing.specs.Listing.{ListingMeets, ListingFromMeets};
 ghost use Rattle.laws.specs.StoredMirror.{Stored};
 
+use trace::Refused;
 use cycle::Carried;
 use grounds::Ground;
-use trace::Listing;
 
 // An item's two words at a place of the buffer; the place after them.
 fn put_item(out: &mut [u32], at: usize, item: cycle::Item) -> usize
@@ -80,27 +80,27 @@ fn put_from(trace: &[u8], out: &mut [u32], from: usize, found: Carried)
 
 // A listing that starts at a cycle, with what that cycle finds under way: the items from there on.
 // Where neither is the trace's, it is still safe, and judged and listed as if they were.
-pub fn list_from(trace: &[u8], from: usize, found: Carried, out: &mut [u32]) -> Listing
+pub fn list_from(trace: &[u8], from: usize, found: Carried, out: &mut [u32]) -> Result<usize, Refused>
     ensures { ListingFromMeets trace.now from found out.old result out.new }
 {
     let judged = trace::judge_from(trace, from, found);
     match judged {
-        Listing::Refused { ground, cycle } => Listing::Refused { ground, cycle },
-        Listing::Items(count) => {
+        Err(Refused { ground, cycle }) => Err(Refused { ground, cycle }),
+        Ok(count) => {
             if out.len() / 2 < count {
-                return Listing::Refused {
+                return Err(Refused {
                     ground: Ground::BufferTooShort,
                     cycle: 0,
-                };
+                });
             }
             put_from(trace, out, from, found);
-            Listing::Items(count)
+            Ok(count)
         }
     }
 }
 
 // The listing: the number of items, whose words then stand at the front of the buffer, or a refusal.
-pub fn list_trace(trace: &[u8], out: &mut [u32]) -> Listing
+pub fn list_trace(trace: &[u8], out: &mut [u32]) -> Result<usize, Refused>
     ensures { ListingMeets trace.now out.old result out.new }
 {
     list_from(trace, 0, cycle::nothing_carried(), out)

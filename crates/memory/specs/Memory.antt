@@ -1,11 +1,7 @@
 -- Packets (01): sizes, alignment, and memory, most significant byte first.
-use Rattle.std.specs.Prelude.{ℕ, ◌+◌, ◌-◌, ◌*◌, ◌/◌, ◌%◌, ◌<◌, Bool, cond, List, length, get_or, set, leb}
+use Rattle.std.specs.Prelude.{ℕ, ◌+◌, ◌-◌, ◌*◌, ◌/◌, ◌%◌, ◌<◌, Bool, cond, List, length, get_or, set, leb, Err, Ok, Result, ⊤}
 use Rattle.memory.specs.declared.Size.{Size}
 use Rattle.memory.specs.declared.Size.TheVariants.{Byte, Word, Long}
-use Rattle.memory.specs.declared.Fetch.{Fetch}
-use Rattle.memory.specs.declared.Fetch.TheVariants.{Value, Missing}
-use Rattle.memory.specs.declared.Reach.{Reach}
-use Rattle.memory.specs.declared.Reach.TheVariants.{Whole, Short}
 
 abbrev pub bytes : Size → ℕ
 bytes Byte = 1
@@ -35,9 +31,9 @@ value_at memory Word at = word_at memory at
 value_at memory Long at = word_at memory at * 65536 + word_at memory (at + 2)
 
 -- "An access with any byte beyond memory is a bus error"
-unfoldable pub fetched : List ℕ → Size → ℕ → Fetch
+unfoldable pub fetched : List ℕ → Size → ℕ → Result ℕ ℕ
 fetched memory size address =
-    cond (present memory size address) (Value (value_at memory size (aligned size address))) (Missing (first_missing memory size address))
+    cond (present memory size address) (Ok (value_at memory size (aligned size address))) (Err (first_missing memory size address))
 
 abbrev pub put_word : List ℕ → ℕ → ℕ → List ℕ
 put_word memory at value = set (set memory at (value / 256 % 256)) (at + 1) (value % 256)
@@ -53,8 +49,8 @@ unfoldable pub stored : List ℕ → Size → ℕ → ℕ → List ℕ
 stored memory size address value = cond (present memory size address) (put_at memory size (aligned size address) value) memory
 
 -- [4] "The memory access shall also answer the lowest address": what a store answers
-unfoldable pub reach : List ℕ → Size → ℕ → Reach
-reach memory size address = cond (present memory size address) Whole (Short (first_missing memory size address))
+unfoldable pub reach : List ℕ → Size → ℕ → Result ⊤ ℕ
+reach memory size address = cond (present memory size address) (Ok tt) (Err (first_missing memory size address))
 
 -- every element of a list is below a bound
 abbrev pub AllBelow : ℕ → List ℕ → Type 0

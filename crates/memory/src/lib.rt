@@ -11,20 +11,6 @@ pub enum Size {
     Long,
 }
 
-// The value, or the lowest address of the access that is not there.
-#[derive(Clone, Copy)]
-pub enum Fetch {
-    Value(u32),
-    Missing(u32),
-}
-
-// Memory reaches over the whole access, or the lowest address of it that is not there.
-#[derive(Clone, Copy)]
-pub enum Reach {
-    Whole,
-    Short(u32),
-}
-
 pub fn byte_count(size: Size) -> u32
     ensures { result ≡ bytes size }
 {
@@ -83,14 +69,14 @@ fn value_at(memory: &[u8], size: Size, at: usize) -> u32
     }
 }
 
-pub fn fetch_at(memory: &[u8], size: Size, address: u32) -> Fetch
+pub fn fetch_at(memory: &[u8], size: Size, address: u32) -> Result<u32, u32>
     ensures { result ≡ fetched memory.now size address }
 {
     if is_present(memory, size, address) {
         let at = align(size, address) as usize;
-        return Fetch::Value(value_at(memory, size, at));
+        return Ok(value_at(memory, size, at));
     }
-    Fetch::Missing(first_missing(memory, size, address))
+    Err(first_missing(memory, size, address))
 }
 
 fn put_word(memory: &mut [u8], at: usize, value: u32)
@@ -120,13 +106,13 @@ fn put_at(memory: &mut [u8], size: Size, at: usize, value: u32)
 }
 
 // Where a byte of the access is not there, nothing is stored.
-pub fn store_at(memory: &mut [u8], size: Size, address: u32, value: u32) -> Reach
+pub fn store_at(memory: &mut [u8], size: Size, address: u32, value: u32) -> Result<(), u32>
     ensures { (result ≡ reach memory.old size address) × (memory.new ≡ stored memory.old size address value) }
 {
     if is_present(memory, size, address) {
         let at = align(size, address) as usize;
         put_at(memory, size, at, value);
-        return Reach::Whole;
+        return Ok(());
     }
-    Reach::Short(first_missing(memory, size, address))
+    Err(first_missing(memory, size, address))
 }

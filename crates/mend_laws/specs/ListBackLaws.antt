@@ -1,5 +1,5 @@
 -- What mend prints is what unmend reads: its numbers, its lines and its head are read back, and with the mended trace behind it the list is taken.
-use Rattle.std.specs.Prelude.{◌≡◌, refl, ℕ, zero, suc, ◌+◌, ◌-◌, ◌*◌, ◌/◌, ◌%◌, ◌^◌, ◌≤◌, ◌<◌, Bool, true, false, cond, List, [], ◌∷◌, ◌++◌, ltb, length, drop}
+use Rattle.std.specs.Prelude.{◌≡◌, refl, ℕ, zero, suc, ◌+◌, ◌-◌, ◌*◌, ◌/◌, ◌%◌, ◌^◌, ◌≤◌, ◌<◌, Bool, true, false, cond, List, [], ◌∷◌, ◌++◌, ltb, length, drop, Some}
 use Rattle.std.proofs.Common.{ap, sym, ◌∙◌, append_assoc, add-zero, div-le_self, div-one, mod-lt, add-one, arith, length-append, take_at, drop_at}
 use Rattle.std.proofs.Common.{drop-drop, lt-ltb, le-ltb, eq-eqb, ne_eqb}
 use Rattle.std.proofs.Math.Nat.{div-add-mod, div-eq_of_lt, pow-zero}
@@ -8,7 +8,6 @@ use Rattle.same.specs.SameListLaws.{equal_same}
 use Rattle.text.specs.Text.{ascii}
 use Rattle.text.specs.NumberText.{digit_text, digits_text, width_from, width, decimal_text}
 use Rattle.text.proofs.NumberTextLaws.{digits_length, left_next, width_holds}
-use Rattle.list_lines.specs.declared.Field.TheVariants.{Read}
 use Rattle.list_lines.specs.ListLines.{digits, number, named, line_word, listed, lines_in, list_behind, list_in}
 use Rattle.list_lines.specs.ListInLaws.{some_lines}
 use Rattle.mending.specs.Mending.{mended_pst, mended, changes}
@@ -38,7 +37,7 @@ digit_back most end before used d bytes low small fits =
 
 -- and so the last digits of a number behind its others, up to the byte that ends them
 digits_back : (most end used n k : ℕ) (rest : List ℕ) → n ≤ most → end < 48
-    → digits most end (n / 10 ^ k) used (digits_text 10 k n ++ end ∷ rest) ≡ Read n (used + k + 1)
+    → digits most end (n / 10 ^ k) used (digits_text 10 k n ++ end ∷ rest) ≡ Some (n, used + k + 1)
 unfolding digits digits_text
 digits_back most end used n zero rest fits low = rw (eq-eqb end end refl, pow-zero, div-one, add-zero used)
 digits_back most end used n (suc k) rest fits low =
@@ -72,7 +71,7 @@ begins most end n (suc k) rest some low =
 
 -- a number as it is written is read back, with the byte that ends it
 number_back : (most end n : ℕ) (rest : List ℕ) → n ≤ most → n < 10 ^ 20 → end < 48
-    → number most end (decimal_text n ++ end ∷ rest) ≡ Read n (length (decimal_text n) + 1)
+    → number most end (decimal_text n ++ end ∷ rest) ≡ Some (n, length (decimal_text n) + 1)
 number_back most end n rest fits wide low =
     let none : n / 10 ^ width 10 n ≡ 0 = div-eq_of_lt (width_holds 10 n 19 1 wide) in
     let whole = digits_back most end 0 n (width 10 n) rest fits low in
@@ -81,7 +80,7 @@ number_back most end n rest fits wide low =
 
 -- a name with its number
 named_back : (name : List ℕ) (most end n : ℕ) (rest : List ℕ) → n ≤ most → n < 10 ^ 20 → end < 48
-    → named name most end (name ++ (decimal_text n ++ end ∷ rest)) ≡ Read n (length name + (length (decimal_text n) + 1))
+    → named name most end (name ++ (decimal_text n ++ end ∷ rest)) ≡ Some (n, length name + (length (decimal_text n) + 1))
 unfolding named
 named_back name most end n rest fits wide low =
     let behind = decimal_text n ++ end ∷ rest in
@@ -96,7 +95,7 @@ past_name : (name text : List ℕ) (end : ℕ) (rest : List ℕ) → drop (lengt
 past_name name text end rest = drop-append-add name (text ++ end ∷ rest) (length text + 1) ∙ past text end rest
 
 -- a line of the list: its cycle and its PST
-line_back : (word : ℕ) (rest : List ℕ) → word / 16 < 65536 → line_word (change_line word ++ rest) ≡ Read word (length (change_line word))
+line_back : (word : ℕ) (rest : List ℕ) → word / 16 < 65536 → line_word (change_line word ++ rest) ≡ Some (word, length (change_line word))
 unfolding line_word
 line_back word rest below =
     let C = decimal_text (word / 16) in
@@ -155,13 +154,13 @@ list_back room cycles from to words trace n k fits h r =
     more : ℕ
     more = length (ascii "changed=") + (length K + 1)
 
-    head : named (ascii "mended cycles=") 65536 32 bytes ≡ Read cycles used
+    head : named (ascii "mended cycles=") 65536 32 bytes ≡ Some (cycles, used)
     head = named_back (ascii "mended cycles=") 65536 32 cycles second n (omega arith) (omega arith)
 
     behind_head : drop used bytes ≡ second
     behind_head = past_name (ascii "mended cycles=") N 32 second
 
-    changed : named (ascii "changed=") 65536 10 (drop used bytes) ≡ Read (length words) more
+    changed : named (ascii "changed=") 65536 10 (drop used bytes) ≡ Some (length words, more)
     changed = ap (named (ascii "changed=") 65536 10) behind_head ∙ named_back (ascii "changed=") 65536 10 (length words) behind k (omega arith) (omega arith)
 
     behind_both : drop (used + more) bytes ≡ behind

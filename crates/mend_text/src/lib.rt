@@ -5,7 +5,6 @@ ghost use Rattle.std.specs.Prelude.{◌≡◌, length};
 ghost use Rattle.text.specs.Text.{Puts};
 ghost use Rattle.mend_text.specs.MendText.{counts_line, change_line, change_lines, list_text, MendSaid};
 
-use mending::Mending;
 use refusal_text::put_refusal;
 use text::{put_byte, put_decimal, put_text};
 
@@ -64,12 +63,12 @@ pub fn tell_mended(text: &mut [u8], trace: &[u8], bytes: &mut [u8], words: &mut 
 {
     let answer = mending::mend_trace(trace, bytes, words);
     match answer {
-        Mending::Refused(ground) => {
+        Err(ground) => {
             let at = put_refusal(text, ground);
             let end = put_byte(text, at, b'\n');
             Said { end, cycles: 0 }
         }
-        Mending::Changed(changed) => {
+        Ok(changed) => {
             let end = put_list(text, trace.len(), &words[..changed]);
             Said {
                 end,

@@ -1,15 +1,14 @@
 -- Traces with dropouts (02, [5]): the refusals in their order, and what mending leaves in both buffers.
-use Rattle.std.specs.Prelude.{◌≡◌, ℕ, List, ◌++◌, length, drop}
+use Rattle.std.specs.Prelude.{◌≡◌, ℕ, List, ◌++◌, length, drop, Err, Ok, Result}
+use Rattle.grounds.specs.declared.Ground.{Ground}
 use Rattle.grounds.specs.Grounds.{number}
 use Rattle.trace.specs.TraceReading.{Told, refusal, counted, too_long, too_short}
-use Rattle.mending.specs.declared.Mending.{Mending}
-use Rattle.mending.specs.declared.Mending.TheVariants.{Changed, Refused}
 use Rattle.mending.specs.Mending.{mended, changes}
 
 -- 01's number and values for each case of the answer; what is counted are the changed cycles
-abbrev pub told_mending : Mending → Told
-told_mending (Changed n) = counted n
-told_mending (Refused why) = refusal (number why) 0
+abbrev pub told_mending : Result ℕ Ground → Told
+told_mending (Ok n) = counted n
+told_mending (Err why) = refusal (number why) 0
 
 -- "Refusals: 7, then 11 for the mended trace, then 11 for the list", where there is room for so many bytes and so many words
 unfoldable pub mending : List ℕ → ℕ → ℕ → Told
@@ -22,7 +21,7 @@ put_front put before (refusal number cycle) = before
 put_front put before (counted n) = put ++ drop (length put) before
 
 -- what mending promises, for every trace and every two buffers
-pub record MendingMeets (trace bytes words : List ℕ) (r : Mending) (bytes' words' : List ℕ) : Type 0 where
+pub record MendingMeets (trace bytes words : List ℕ) (r : Result ℕ Ground) (bytes' words' : List ℕ) : Type 0 where
   -- the answer's number and values are 01's
   pub answer : told_mending r ≡ mending trace (length bytes) (length words)
   -- every byte of the one buffer

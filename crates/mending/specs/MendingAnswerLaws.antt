@@ -1,10 +1,9 @@
 -- Laws of mending's answer: each refusal where its turn comes, the promise from the answer alone, and what stands in buffers that are long enough.
-use Rattle.std.specs.Prelude.{◌≡◌, refl, ℕ, ◌≤◌, ◌<◌, Bool, true, false, cond, List, ◌++◌, ltb, length, take, drop}
+use Rattle.std.specs.Prelude.{◌≡◌, refl, ℕ, ◌≤◌, ◌<◌, Bool, true, false, cond, List, ◌++◌, ltb, length, take, drop, Ok, Result}
+use Rattle.grounds.specs.declared.Ground.{Ground}
 use Rattle.std.proofs.Common.{ap, sym, ◌∙◌, arith, length-append, take_at, lt-ltb, le-ltb}
 use Rattle.trace.specs.TraceReading.{Told, refusal, counted, too_long, too_short}
 use Rattle.trace.proofs.TraceReadingLaws.{short_so, room_so, same_count}
-use Rattle.mending.specs.declared.Mending.{Mending}
-use Rattle.mending.specs.declared.Mending.TheVariants.{Changed}
 use Rattle.mending.specs.Mending.{mended_pst, mended, changes}
 use Rattle.mending.specs.MendingStoreLaws.{retold_length, changes_at_most}
 use Rattle.mending.specs.MendingUnique.{told_mending_unique}
@@ -49,7 +48,7 @@ pub record ListPut (trace words : List ℕ) (n : ℕ) : Type 0 where
   pub fits : n ≤ length words
   pub list : take n words ≡ changes trace
 
-pub list_put : {trace bytes words bytes' words' : List ℕ} {r : Mending} {n : ℕ} → MendingMeets trace bytes words r bytes' words'
+pub list_put : {trace bytes words bytes' words' : List ℕ} {r : Result ℕ Ground} {n : ℕ} → MendingMeets trace bytes words r bytes' words'
     → mending trace (length bytes) (length words) ≡ counted n → ListPut trace words' n
 list_put {trace} {bytes} {words} {bytes'} {words'} {r} {n} m e =
     let stands : words' ≡ changes trace ++ drop (length (changes trace)) words = rw e at m.list in
@@ -60,24 +59,24 @@ list_put {trace} {bytes} {words} {bytes'} {words'} {r} {n} m e =
     }
 
 -- the promise, from the answer alone
-pub mending_meets : (trace bytes words bytes' words' : List ℕ) (r : Mending) → told_mending r ≡ mending trace (length bytes) (length words)
+pub mending_meets : (trace bytes words bytes' words' : List ℕ) (r : Result ℕ Ground) → told_mending r ≡ mending trace (length bytes) (length words)
     → bytes' ≡ put_front (mended trace) bytes (told_mending r) → words' ≡ put_front (changes trace) words (told_mending r)
     → MendingMeets trace bytes words r bytes' words'
 mending_meets trace bytes words bytes' words' r e f g =
     record { answer = e; cycles = f ∙ ap (put_front (mended trace) bytes) e; list = g ∙ ap (put_front (changes trace) words) e }
 
 -- with room for as many bytes and words as there are cycles, only 7 is refused; what was put stands at the front
-pub record MendedInto (trace : List ℕ) (r : Mending) (bytes words : List ℕ) : Type 0 where
-  pub answer : r ≡ Changed (length (changes trace))
+pub record MendedInto (trace : List ℕ) (r : Result ℕ Ground) (bytes words : List ℕ) : Type 0 where
+  pub answer : r ≡ Ok (length (changes trace))
   pub cycles : take (length trace) bytes ≡ mended trace
   pub list : take (length (changes trace)) words ≡ changes trace
 
-pub mended_into : {trace bytes words bytes' words' : List ℕ} {r : Mending} → MendingMeets trace bytes words r bytes' words'
+pub mended_into : {trace bytes words bytes' words' : List ℕ} {r : Result ℕ Ground} → MendingMeets trace bytes words r bytes' words'
     → length trace ≤ 65536 → length trace ≤ length bytes → length trace ≤ length words → MendedInto trace r bytes' words'
 mended_into {trace} {bytes} {words} {bytes'} {words'} {r} m short room places =
     let done = mending_done trace (length bytes) (length words) short room (omega (arith, changes_at_most trace (length trace))) in
     record {
-      answer = told_mending_unique r (Changed (length (changes trace))) (m.answer ∙ done);
+      answer = told_mending_unique r (Ok (length (changes trace))) (m.answer ∙ done);
       cycles = rw (m.cycles, done) (take_at (mended trace) _ (length trace) (retold_length (mended_pst trace) trace (length trace)));
       list = rw (m.list, done) (take_at (changes trace) _ (length (changes trace)) refl);
     }

@@ -11,13 +11,6 @@ ghost use Rattle.mending.specs.MendingMirror.{kept_after, wipes, Surveyed};
 
 use grounds::Ground;
 
-// How many cycles were changed, or why the trace is not mended.
-#[derive(Clone, Copy)]
-pub enum Mending {
-    Changed(usize),
-    Refused(Ground),
-}
-
 // The PST that is kept of a cycle, and what is due after it.
 #[derive(Clone, Copy)]
 pub struct Kept {
@@ -164,19 +157,19 @@ fn put_mended(trace: &[u8], bytes: &mut [u8], list: &mut [u32], cut: usize)
 }
 
 // The trace mended, at the front of the one buffer, and a word for each changed cycle at the front of the other.
-pub fn mend_trace(trace: &[u8], bytes: &mut [u8], list: &mut [u32]) -> Mending
+pub fn mend_trace(trace: &[u8], bytes: &mut [u8], list: &mut [u32]) -> Result<usize, Ground>
     ensures { MendingMeets trace.now bytes.old list.old result bytes.new list.new }
 {
     if 65536 < trace.len() {
-        return Mending::Refused(Ground::TraceTooLong);
+        return Err(Ground::TraceTooLong);
     }
     if bytes.len() < trace.len() {
-        return Mending::Refused(Ground::BufferTooShort);
+        return Err(Ground::BufferTooShort);
     }
     let found = survey_trace(trace);
     if list.len() < found.changed {
-        return Mending::Refused(Ground::BufferTooShort);
+        return Err(Ground::BufferTooShort);
     }
     put_mended(trace, bytes, list, found.cut);
-    Mending::Changed(found.changed)
+    Ok(found.changed)
 }

@@ -1,11 +1,9 @@
 -- Laws of numbers: reading digit by digit, behind `0x` or without it.
-use Rattle.std.specs.Prelude.{ℕ, ◌+◌, ◌*◌, ◌%◌, ◌<◌, ◌≤◌, ◌≡◌, refl, Bool, true, false, cond, ◌&&◌, List, [], ◌∷◌, leb, length, get_or, take, drop}
+use Rattle.std.specs.Prelude.{ℕ, ◌+◌, ◌*◌, ◌%◌, ◌<◌, ◌≤◌, ◌≡◌, refl, Bool, true, false, cond, ◌&&◌, List, [], ◌∷◌, leb, length, get_or, take, drop, None, Option, Some}
 use Rattle.std.proofs.Common.{arith, ap, sym, ◌∙◌, length-take, length-drop, drop_of_length-le, le-leb}
 use Rattle.std.proofs.Math.Bool.{and-false}
 use Rattle.std.proofs.Math.ListN.{get_or-eq_default}
 use Rattle.std.proofs.lemmas.Bool.{lt-leb}
-use Rattle.numbers.specs.declared.Numeral.{Numeral}
-use Rattle.numbers.specs.declared.Numeral.TheVariants.{Value, NoNumber}
 use Rattle.numbers.specs.Numbers.{digit, all_digits, value_from, prefix_length, value, numeral, is_numeral, more, gathered, byte_at}
 use Rattle.numbers.specs.declared.Numbers.{Numbers}
 use Rattle.words.specs.LineWords.{ascii}
@@ -32,8 +30,8 @@ pub digits_end : (word : List ℕ) (i : ℕ) → length word ≤ i → all_digit
 digits_end word i h = rw (drop_of_length-le word h)
 
 -- the number that the rest of a word makes after the number before it
-abbrev pub numeral_from : ℕ → List ℕ → Numeral
-numeral_from before rest = cond (all_digits rest && leb (value_from before rest) 0xFFFFFFFF) (Value (value_from before rest)) NoNumber
+abbrev pub numeral_from : ℕ → List ℕ → Option ℕ
+numeral_from before rest = cond (all_digits rest && leb (value_from before rest) 0xFFFFFFFF) (Some (value_from before rest)) None
 
 value_grows : (before : ℕ) (rest : List ℕ) → before ≤ value_from before rest
 value_grows before [] = omega arith
@@ -43,16 +41,16 @@ pub number_goes_on : (word : List ℕ) (i before : ℕ) → i < length word → 
     → numeral_from before (drop i word) ≡ numeral_from (before * 16 + digit (get_or word i 0)) (drop (i + 1) word)
 number_goes_on word i before h e = rw (from_here word i h, le-leb _ _ e)
 
-pub number_bad : (word : List ℕ) (i before : ℕ) → i < length word → 15 < digit (get_or word i 0) → numeral_from before (drop i word) ≡ NoNumber
+pub number_bad : (word : List ℕ) (i before : ℕ) → i < length word → 15 < digit (get_or word i 0) → numeral_from before (drop i word) ≡ None
 number_bad word i before h e = rw (from_here word i h, lt-leb _ _ e)
 
 -- seven digits on, a number of more than 28 bits is too wide
-pub number_wide : (word : List ℕ) (i before : ℕ) → i < length word → 0x0FFFFFFF < before → numeral_from before (drop i word) ≡ NoNumber
+pub number_wide : (word : List ℕ) (i before : ℕ) → i < length word → 0x0FFFFFFF < before → numeral_from before (drop i word) ≡ None
 number_wide word i before h w =
     let grown = value_grows (before * 16 + digit (get_or word i 0)) (drop (i + 1) word) in
     rw (from_here word i h, lt-leb (value_from (before * 16 + digit (get_or word i 0)) (drop (i + 1) word)) 0xFFFFFFFF (omega arith), and-false)
 
-pub number_ends : (word : List ℕ) (i before : ℕ) → length word ≤ i → before ≤ 0xFFFFFFFF → numeral_from before (drop i word) ≡ Value before
+pub number_ends : (word : List ℕ) (i before : ℕ) → length word ≤ i → before ≤ 0xFFFFFFFF → numeral_from before (drop i word) ≡ Some before
 number_ends word i before h e = rw (drop_of_length-le word h, le-leb before 0xFFFFFFFF e)
 
 -- where the digits start: behind `0x`, or where the word does
@@ -62,7 +60,7 @@ no_prefix word h =
     let short : length (take 2 word) ≡ length (ascii "0x") → ⊥ = λ e. omega (arith, length-take 2 word, h, e) in
     rw (same_length (take 2 word) (ascii "0x") short)
 
-pub number_empty : (word : List ℕ) (start : ℕ) → start ≡ prefix_length word → length word ≤ start → numeral word ≡ NoNumber
+pub number_empty : (word : List ℕ) (start : ℕ) → start ≡ prefix_length word → length word ≤ start → numeral word ≡ None
 unfolding numeral
 number_empty word start p h = rw (lt-leb 1 (length (drop (prefix_length word) word)) (omega (arith, length-drop (prefix_length word) word)))
 
@@ -82,22 +80,22 @@ unfolding digit
 byte_half line at h = rw (get_or-eq_default line 0 h) (omega arith)
 
 -- a word is a number or is none
-pub numeral_value : (word : List ℕ) (n : ℕ) → numeral word ≡ Value n → (is_numeral word ≡ true) × (value word ≡ n)
+pub numeral_value : (word : List ℕ) (n : ℕ) → numeral word ≡ Some n → (is_numeral word ≡ true) × (value word ≡ n)
 unfolding numeral
 numeral_value word n e = by_test (is_numeral word) e
   where
-    by_test : (t : Bool) → cond t (Value (value word)) NoNumber ≡ Value n → (t ≡ true) × (value word ≡ n)
+    by_test : (t : Bool) → cond t (Some (value word)) None ≡ Some n → (t ≡ true) × (value word ≡ n)
     by_test true e = (refl, cc)
     by_test false e = (cc, cc)
 
-pub numeral_none : (word : List ℕ) → numeral word ≡ NoNumber → is_numeral word ≡ false
+pub numeral_none : (word : List ℕ) → numeral word ≡ None → is_numeral word ≡ false
 unfolding numeral
 numeral_none word e = by_test (is_numeral word) e
   where
-    by_test : (t : Bool) → cond t (Value (value word)) NoNumber ≡ NoNumber → t ≡ false
+    by_test : (t : Bool) → cond t (Some (value word)) None ≡ None → t ≡ false
     by_test true e = cc
     by_test false e = refl
 
-pub gather_goes_on : (before after : Numbers) (n : Numeral) (word : List ℕ) (words : List (List ℕ)) → n ≡ numeral word → after ≡ more before n
+pub gather_goes_on : (before after : Numbers) (n : Option ℕ) (word : List ℕ) (words : List (List ℕ)) → n ≡ numeral word → after ≡ more before n
     → gathered before (word ∷ words) ≡ gathered after words
 gather_goes_on before after n word words p q = ap (λ (x : Numbers). gathered x words) (sym (q ∙ ap (more before) p))

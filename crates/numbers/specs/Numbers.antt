@@ -1,8 +1,6 @@
 -- The desk's language: numbers, and the numbers of a line.
-use Rattle.std.specs.Prelude.{ℕ, ◌+◌, ◌-◌, ◌*◌, ◌%◌, Bool, true, cond, ◌&&◌, List, [], ◌∷◌, leb, length, get_or, take, drop}
+use Rattle.std.specs.Prelude.{ℕ, ◌+◌, ◌-◌, ◌*◌, ◌%◌, Bool, true, cond, ◌&&◌, List, [], ◌∷◌, leb, length, get_or, take, drop, None, Option, Some}
 use Rattle.words.specs.LineWords.{ascii, same}
-use Rattle.numbers.specs.declared.Numeral.{Numeral}
-use Rattle.numbers.specs.declared.Numeral.TheVariants.{Value, NoNumber}
 use Rattle.numbers.specs.declared.Numbers.{Numbers}
 use Rattle.numbers.specs.declared.Numbers.TheVariants.{Zero, One, Two, Three, Four, NotNumbers}
 
@@ -39,18 +37,18 @@ value word = value_from 0 (digits_of word)
 abbrev pub is_numeral : List ℕ → Bool
 is_numeral word = leb 1 (length (digits_of word)) && (all_digits (digits_of word) && leb (value word) 0xFFFFFFFF)
 
-unfoldable pub numeral : List ℕ → Numeral
-numeral word = cond (is_numeral word) (Value (value word)) NoNumber
+unfoldable pub numeral : List ℕ → Option ℕ
+numeral word = cond (is_numeral word) (Some (value word)) None
 
 -- one number more, up to four
-abbrev pub more : Numbers → Numeral → Numbers
-more before NoNumber = NotNumbers
-more Zero (Value a) = One a
-more (One a) (Value b) = Two a b
-more (Two a b) (Value c) = Three a b c
-more (Three a b c) (Value d) = Four a b c d
-more (Four a b c d) (Value e) = NotNumbers
-more NotNumbers (Value a) = NotNumbers
+abbrev pub more : Numbers → Option ℕ → Numbers
+more before None = NotNumbers
+more Zero (Some a) = One a
+more (One a) (Some b) = Two a b
+more (Two a b) (Some c) = Three a b c
+more (Three a b c) (Some d) = Four a b c d
+more (Four a b c d) (Some e) = NotNumbers
+more NotNumbers (Some a) = NotNumbers
 
 abbrev pub gathered : Numbers → List (List ℕ) → Numbers
 gathered before [] = before

@@ -5,13 +5,6 @@ ghost use Rattle.std.specs.Prelude.{◌≡◌, ◌≤◌};
 ghost use Rattle.words.specs.LineWords.{words_from};
 ghost use Rattle.numbers.specs.Numbers.{digit, all_digits, prefix_length, numeral, more, numbers, byte_at};
 
-// A word as a number.
-#[derive(Clone, Copy)]
-pub enum Numeral {
-    Value(u32),
-    NoNumber,
-}
-
 // Words as numbers, up to four.
 #[derive(Clone, Copy)]
 pub enum Numbers {
@@ -75,33 +68,33 @@ fn prefix_length(word: &[u8]) -> usize
     0
 }
 
-pub fn read_number(word: &[u8]) -> Numeral
+pub fn read_number(word: &[u8]) -> Option<u32>
     ensures { result ≡ numeral word.now }
 {
     let start = prefix_length(word);
     if word.len() <= start {
-        return Numeral::NoNumber;
+        return None;
     }
     let mut value: u32 = 0;
     let mut i = start;
     while i < word.len() {
         let digit = digit_of(word[i]);
         if 15 < digit {
-            return Numeral::NoNumber;
+            return None;
         }
         if 0x0FFFFFFF < value {
-            return Numeral::NoNumber;
+            return None;
         }
         value = value * 16 + digit;
         i += 1;
     }
-    Numeral::Value(value)
+    Some(value)
 }
 
-pub fn add_number(before: Numbers, numeral: Numeral) -> Numbers
+pub fn add_number(before: Numbers, numeral: Option<u32>) -> Numbers
     ensures { result ≡ more before numeral }
 {
-    let Numeral::Value(n) = numeral else {
+    let Some(n) = numeral else {
         return Numbers::NotNumbers;
     };
     match before {

@@ -1,6 +1,5 @@
 -- P9's page and index ("[2]" of the desk's language), computed from the definitions; a page where nothing started.
-use Rattle.std.specs.Prelude.{◌≡◌, refl, [], ◌∷◌, length, get_or}
-use Rattle.rate.specs.declared.Rate.TheVariants.{NothingStarted}
+use Rattle.std.specs.Prelude.{◌≡◌, refl, [], ◌∷◌, length, get_or, None}
 use Rattle.rate.specs.Rate.{rate_of, hundredths}
 use Rattle.cycle.specs.Cycle.{gives_own, after, carried_into, value}
 use Rattle.cycle.specs.CycleItems.{items_at}
@@ -34,7 +33,7 @@ pub record Shown : Type 0 where
   pub empty : page_verdict [] 0 ≡ counted 0
   pub empty_index : index_words [] ≡ []
   -- a run of stops: nothing started
-  pub nothing_started : rate_of 2 (starts_of (items (0xE0 ∷ 0xE0 ∷ []))) ≡ NothingStarted
+  pub nothing_started : rate_of 2 (starts_of (items (0xE0 ∷ 0xE0 ∷ []))) ≡ None
   -- the reader's own comes before the buffer's
   pub reserved_first : page_verdict (0x20 ∷ []) 0 ≡ refusal 8 0
 

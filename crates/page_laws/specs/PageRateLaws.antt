@@ -1,5 +1,5 @@
 -- Laws of a page's rate: no more starts than cycles, so that both are doubles exactly, and the rate is their fraction rounded once.
-use Rattle.std.specs.Prelude.{◌≡◌, refl, ℕ, zero, suc, ◌+◌, ◌≤◌, ◌<◌, Bool, true, false, cond, List, [], ◌∷◌, ◌++◌, eqb, ltb, length}
+use Rattle.std.specs.Prelude.{◌≡◌, refl, ℕ, zero, suc, ◌+◌, ◌≤◌, ◌<◌, Bool, true, false, cond, List, [], ◌∷◌, ◌++◌, eqb, ltb, length, Some}
 use Rattle.std.proofs.Common.{ap, sym, true≢false, arith, ne_eqb, ltb-false}
 use Rattle.std.specs.Float.{binary64}
 use Rattle.std.specs.Float.Ieee.{round}
@@ -9,7 +9,6 @@ use Rattle.cycle.specs.Cycle.{pst, gives_own, marker, after, carried_into}
 use Rattle.cycle.specs.CycleItems.{of_value, of_cycle, value_item, own_item, items_at}
 use Rattle.trace.specs.Items.{items_before, items}
 use Rattle.cycle.specs.CycleCountLaws.{one_le}
-use Rattle.rate.specs.declared.Rate.TheVariants.{Average}
 use Rattle.rate.specs.Rate.{rate_of}
 use Rattle.rate.specs.RateLaws.{rounded_once}
 use Rattle.tally.specs.Tally.{start, starts_of}
@@ -78,7 +77,7 @@ starts_within_cycles trace = starts_before trace (length trace)
 
 -- THE LAW: the rate of a page is the double nearest to cycles by starts, rounded once
 pub page_rate : (trace : List ℕ) → length trace ≤ 65536 → 0 < starts_of (items trace)
-    → rate_of (length trace) (starts_of (items trace)) ≡ Average (round binary64 false (length trace) (starts_of (items trace)))
+    → rate_of (length trace) (starts_of (items trace)) ≡ Some (round binary64 false (length trace) (starts_of (items trace)))
 page_rate trace h p =
     rw (ne_eqb (starts_of (items trace)) 0 (λ e. omega (arith, e)))
-    (ap Average (rounded_once (length trace) (starts_of (items trace)) h (omega (arith, starts_within_cycles trace)) p))
+    (ap Some (rounded_once (length trace) (starts_of (items trace)) h (omega (arith, starts_within_cycles trace)) p))

@@ -1,8 +1,8 @@
 -- "so that a listing may start there and equal the rest of the full one" (02, [2]): of the page's own index, as it stands in the buffer.
-use Rattle.std.specs.Prelude.{◌≡◌, ℕ, ◌+◌, ◌-◌, ◌*◌, ◌≤◌, ◌<◌, List, length, get_or, drop}
+use Rattle.std.specs.Prelude.{◌≡◌, ℕ, ◌+◌, ◌-◌, ◌*◌, ◌≤◌, ◌<◌, List, length, get_or, drop, Result}
+use Rattle.trace.specs.declared.Refused.{Refused}
 use Rattle.std.proofs.Common.{ap, sym, ◌∙◌, subst, arith}
 use Rattle.std.proofs.Math.ListN.{get_or-append}
-use Rattle.trace.specs.declared.Listing.{Listing}
 use Rattle.trace.specs.TraceReading.{counted, told_listing}
 use Rattle.listing.specs.Listing.{ListingMeets}
 use Rattle.index.specs.declared.Entry.{Entry}
@@ -28,8 +28,8 @@ module _ (trace : List ℕ) (bytes : Bytes trace) (given index : List ℕ) (page
       ∙ index_read_back trace bytes k within
 
   -- THE LAW: a listing from it counts what the full one has beyond the items before it, and each of its words is the full one's
-  pub page_starts_the_rest : (before full : List ℕ) (s : Listing) → ListingMeets trace before s full → told_listing s ≡ counted n
-      → (room after : List ℕ) (r : Listing) → EntryMeets trace entry room r after → 2 * (n - entry.items) ≤ length room
+  pub page_starts_the_rest : (before full : List ℕ) (s : Result ℕ Refused) → ListingMeets trace before s full → told_listing s ≡ counted n
+      → (room after : List ℕ) (r : Result ℕ Refused) → EntryMeets trace entry room r after → 2 * (n - entry.items) ≤ length room
       → (told_listing r ≡ counted (n - entry.items)) × ((j : ℕ) → j < 2 * (n - entry.items) → get_or after j 0 ≡ get_or full (2 * entry.items + j) 0)
   page_starts_the_rest before full s whole listed room after r =
       subst Rest (sym entry_of_page) (entry_is_the_rest trace (256 * k) (omega arith) n before full s whole listed room after r)

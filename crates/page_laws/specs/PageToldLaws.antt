@@ -1,14 +1,12 @@
 -- What holds of a page as it is handed over: its counts add up, its starts are four of them, its firsts and lasts are the least and the greatest.
-use Rattle.std.specs.Prelude.{◌≡◌, refl, ℕ, ◌+◌, ◌<◌, false, List, length, get_or}
+use Rattle.std.specs.Prelude.{◌≡◌, refl, ℕ, ◌+◌, ◌<◌, false, List, length, get_or, Some, Ok}
 use Rattle.std.proofs.Common.{ap, sym, ◌∙◌}
 use Rattle.std.specs.Float.{binary64}
 use Rattle.std.specs.Float.Ieee.{round}
-use Rattle.trace.specs.declared.Listing.TheVariants.{Items}
 use Rattle.trace.specs.Items.{items}
 use Rattle.trace.specs.TraceReading.{counted, told_listing, reading}
 use Rattle.trace.proofs.TraceReadingLaws.{read_count, whole_short}
 use Rattle.trace.specs.TraceReadingUnique.{told_listing_unique}
-use Rattle.rate.specs.declared.Rate.TheVariants.{Average}
 use Rattle.index.specs.Index.{Bytes}
 use Rattle.summary.specs.declared.page.Page.{Page}
 use Rattle.tally.specs.Tally.{count_of, first_of, last_of}
@@ -22,7 +20,7 @@ use Rattle.summary.specs.Page.{page_of, page_by, PageMeets}
 
 module _ (trace given index : List ℕ) (page : Page) (met : PageMeets trace given page index) (n : ℕ) (accepted : told_listing page.judged ≡ counted n) where
   page_of_lem : page ≡ page_of trace n
-  page_of_lem = met.page ∙ ap (page_by trace) (told_listing_unique page.judged (Items n) accepted)
+  page_of_lem = met.page ∙ ap (page_by trace) (told_listing_unique page.judged (Ok n) accepted)
 
   reads : reading trace ≡ counted n
   reads = page_read_so trace (length given) n (sym met.answer ∙ accepted)
@@ -44,5 +42,5 @@ module _ (trace given index : List ℕ) (page : Page) (met : PageMeets trace giv
       (first_and_last trace code)
 
   -- "one division of the two counts in double precision, rounded once": the double nearest to the fraction of the numbers handed over
-  pub page_rounded_once : 0 < page.starts → page.rate ≡ Average (round binary64 false page.cycles page.starts)
+  pub page_rounded_once : 0 < page.starts → page.rate ≡ Some (round binary64 false page.cycles page.starts)
   page_rounded_once = rw page_of_lem (page_rate trace (whole_short trace n reads))

@@ -1,5 +1,5 @@
 -- Laws of room: the buffers that the program `page` has are never too short. Twenty digits hold every number of 64 bits.
-use Rattle.std.specs.Prelude.{ℕ, zero, suc, ◌+◌, ◌*◌, ◌/◌, ◌≤◌, Bool, true, false, cond, ◌≡◌, refl, List, [], ◌∷◌, ◌++◌, eqb, ltb, length, take, get_or}
+use Rattle.std.specs.Prelude.{ℕ, zero, suc, ◌+◌, ◌*◌, ◌/◌, ◌≤◌, Bool, true, false, cond, ◌≡◌, refl, List, [], ◌∷◌, ◌++◌, eqb, ltb, length, take, get_or, None, Option, Some}
 use Prim.Native.String.{String}
 use Rattle.std.proofs.Common.{arith, le_refl, le_of_eq, length-append, length-take, le-ltb, ltb-false}
 use Rattle.cycle.specs.declared.Carried.{Carried}
@@ -9,8 +9,6 @@ use Rattle.index.specs.declared.Entry.{Entry}
 use Rattle.index.specs.Entry.{of_word}
 use Rattle.index.specs.Index.{entry_count, index_words}
 use Rattle.index.proofs.IndexLaws.{length_index}
-use Rattle.rate.specs.declared.Rate.{Rate}
-use Rattle.rate.specs.declared.Rate.TheVariants.{NothingStarted, Average}
 use Rattle.rate.specs.Rate.{rate_bits, hundredths}
 use Rattle.summary.specs.declared.page.Page.{Page}
 use Rattle.summary.specs.Page.{page_of, page_verdict}
@@ -65,14 +63,14 @@ head_most cycles items starts =
 places_most : (h : ℕ) → Most (places_text h) 23
 places_most h = let most = decimal_most (h / 100) and letters "." and digits_most 10 2 h in most
 
-rate_most : (rate : Rate) (cycles starts : ℕ) → Most (rate_line rate cycles starts) 51
-rate_most NothingStarted cycles starts = let most = letters "rate none\n" in more 51 (omega arith) most
-rate_most (Average average) cycles starts =
+rate_most : (rate : Option Float) (cycles starts : ℕ) → Most (rate_line rate cycles starts) 51
+rate_most None cycles starts = let most = letters "rate none\n" in more 51 (omega arith) most
+rate_most (Some average) cycles starts =
     let most =
     letters "rate "
     and places_most (hundredths cycles starts)
     and letters " bits "
-    and digits_most 16 16 (rate_bits (Average average))
+    and digits_most 16 16 (rate_bits (Some average))
     and letters "\n" in
     most
 

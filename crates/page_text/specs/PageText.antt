@@ -1,12 +1,9 @@
 -- The page as text (the desk's language, `page`): its head, its rate, a line for each code that occurs and one for each entry of the index; or a refusal.
-use Rattle.std.specs.Prelude.{ℕ, zero, suc, ◌*◌, ◌/◌, cond, List, [], ◌∷◌, ◌++◌, eqb, take, get_or}
+use Rattle.std.specs.Prelude.{ℕ, zero, suc, ◌*◌, ◌/◌, cond, List, [], ◌∷◌, ◌++◌, eqb, take, get_or, None, Option, Some, Err, Ok, Result}
+use Rattle.trace.specs.declared.Refused.{Refused}
 use Prim.Native.String.{String}
 use Rattle.cycle.specs.declared.Carried.{Carried}
-use Rattle.trace.specs.declared.Listing.{Listing}
-use Rattle.trace.specs.declared.Listing.TheVariants.{Items, Refused}
 use Rattle.trace.specs.TraceReading.{Told, refusal, counted}
-use Rattle.rate.specs.declared.Rate.{Rate}
-use Rattle.rate.specs.declared.Rate.TheVariants.{NothingStarted, Average}
 use Rattle.rate.specs.Rate.{rate_bits, hundredths}
 use Rattle.index.specs.declared.Entry.{Entry}
 use Rattle.index.specs.Entry.{of_word}
@@ -33,10 +30,10 @@ abbrev pub places_text : ℕ → List ℕ
 places_text hundredths = decimal_text (hundredths / 100) ++ ascii "." ++ digits_text 10 2 hundredths
 
 -- "`rate` is the double as 16 hexadecimal digits, and before it cycles over starts ..; where nothing started the line is `rate none`"
-abbrev pub rate_line : Rate → ℕ → ℕ → List ℕ
-rate_line NothingStarted cycles starts = line (ascii "rate none")
-rate_line (Average average) cycles starts =
-    line (ascii "rate " ++ places_text (hundredths cycles starts) ++ ascii " bits " ++ hex_text 16 (rate_bits (Average average)))
+abbrev pub rate_line : Option Float → ℕ → ℕ → List ℕ
+rate_line None cycles starts = line (ascii "rate none")
+rate_line (Some average) cycles starts =
+    line (ascii "rate " ++ places_text (hundredths cycles starts) ++ ascii " bits " ++ hex_text 16 (rate_bits (Some average)))
 
 -- "A `code` line for each code that occurs": none for the others
 abbrev pub code_line : ℕ → ℕ → ℕ → ℕ → List ℕ
@@ -81,9 +78,9 @@ page_lines page items index =
     ++ index_lines page.cycles index
 
 -- the lines, "or prints `refused N at C`"
-abbrev pub lines_by : Page → List ℕ → Listing → List ℕ
-lines_by page index (Items items) = page_lines page items index
-lines_by page index (Refused why cycle) = line (refused_at why cycle)
+abbrev pub lines_by : Page → List ℕ → Result ℕ Refused → List ℕ
+lines_by page index (Ok items) = page_lines page items index
+lines_by page index (Err r) = line (refused_at r.ground r.cycle)
 
 -- what is printed of a page and its index
 abbrev pub page_text : Page → List ℕ → List ℕ

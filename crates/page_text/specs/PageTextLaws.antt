@@ -1,9 +1,8 @@
 -- Laws of the page as text: digits put in two parts, code by code, entry by entry.
-use Rattle.std.specs.Prelude.{ℕ, zero, suc, ◌+◌, ◌-◌, ◌*◌, ◌/◌, ◌%◌, ◌^◌, ◌≤◌, ◌<◌, ◌≡◌, refl, List, [], ◌∷◌, ◌++◌, length, drop, get_or}
+use Rattle.std.specs.Prelude.{ℕ, zero, suc, ◌+◌, ◌-◌, ◌*◌, ◌/◌, ◌%◌, ◌^◌, ◌≤◌, ◌<◌, ◌≡◌, refl, List, [], ◌∷◌, ◌++◌, length, drop, get_or, Err, Ok, Result}
+use Rattle.trace.specs.declared.Refused.{Refused}
 use Rattle.std.proofs.Common.{ap, sym, ◌∙◌, arith, mul_assoc, add_comm, suc-add, div-one, add-one, pow-add, drop-cons, take_at, take_all}
 use Rattle.std.proofs.Math.Nat.{mod-add-div, add-mul-div_left, add-mul-mod_self_left, div-div-eq-div-mul, pow-succ', one-le-pow}
-use Rattle.trace.specs.declared.Listing.{Listing}
-use Rattle.trace.specs.declared.Listing.TheVariants.{Items, Refused}
 use Rattle.trace.specs.TraceReading.{refusal, counted, told_listing}
 use Rattle.grounds.specs.Grounds.{number}
 use Rattle.index.specs.Entry.{of_word}
@@ -94,11 +93,11 @@ page_printed {trace} {before} {after} {r} met = by_judged r.judged refl
     n : ℕ
     n = entry_count (length trace)
 
-    by_judged : (j : Listing) → r.judged ≡ j → page_text r after ≡ printed trace (length before)
-    by_judged (Items items) e =
+    by_judged : (j : Result ℕ Refused) → r.judged ≡ j → page_text r after ≡ printed trace (length before)
+    by_judged (Ok items) e =
         let verdict : page_verdict trace (length before) ≡ counted items = sym met.answer ∙ ap told_listing e in
         let page : r ≡ page_of trace items = met.page ∙ ap (page_by trace) e in
         rw (met.words, verdict, page, take_at W (drop (length W) before) n (length_index trace), take_all n W (omega (arith, length_index trace)))
-    by_judged (Refused why cycle) e =
-        let verdict : page_verdict trace (length before) ≡ refusal (number why) cycle = sym met.answer ∙ ap told_listing e in
+    by_judged (Err r) e =
+        let verdict : page_verdict trace (length before) ≡ refusal (number r.ground) r.cycle = sym met.answer ∙ ap told_listing e in
         rw (e, verdict)

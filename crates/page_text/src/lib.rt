@@ -8,10 +8,10 @@ ghost use Rattle.summary.specs.Page.{page_verdict, index_after};
 ghost use Rattle.text.specs.Text.{Puts};
 ghost use Rattle.page_text.specs.PageText.{page_lines, page_text, printed};
 
+use trace::Refused;
 use refusal_text::put_refusal_at;
 use summary::page;
 use summary::page::Page;
-use trace::Listing;
 
 // The lines of a page whose trace was read; of the index those that its cycles have, as far as there are.
 fn put_lines(text: &mut [u8], page: Page, items: usize, index: &[u32]) -> usize
@@ -33,11 +33,11 @@ fn put_page(text: &mut [u8], page: Page, index: &[u32]) -> usize
 {
     let judged = page.judged;
     match judged {
-        Listing::Refused { ground, cycle } => {
+        Err(Refused { ground, cycle }) => {
             let at = put_refusal_at(text, ground, cycle);
             text::put_byte(text, at, b'\n')
         }
-        Listing::Items(items) => put_lines(text, page, items, index),
+        Ok(items) => put_lines(text, page, items, index),
     }
 }
 

@@ -6,7 +6,6 @@ ghost use Rattle.page_text.specs.PageText.{head_line, places_text, rate_line, co
 
 use cycle::Carried;
 use index::Entry;
-use rate::Rate;
 use summary::page::Page;
 use text::{put_byte, put_decimal, put_hex, put_text};
 
@@ -52,12 +51,12 @@ fn put_bits(text: &mut [u8], at: usize, bits: u64) -> usize
 }
 
 // `rate R bits B`, or `rate none`
-pub fn put_rate(text: &mut [u8], at: usize, rate: Rate, cycles: u32, starts: u32) -> usize
+pub fn put_rate(text: &mut [u8], at: usize, rate: Option<f64>, cycles: u32, starts: u32) -> usize
     ensures { Puts text.old at (rate_line rate cycles starts) text.new result }
 {
     match rate {
-        Rate::NothingStarted => put_text(text, at, b"rate none\n"),
-        Rate::Average(_) => {
+        None => put_text(text, at, b"rate none\n"),
+        Some(_) => {
             let at = put_text(text, at, b"rate ");
             let at = put_hundredths(text, at, rate::count_hundredths(cycles, starts));
             let at = put_text(text, at, b" bits ");

@@ -1,7 +1,6 @@
 -- What is said to a line of the pod's (the desk's language, `pod`).
-use Rattle.std.specs.Prelude.{ℕ, List, []}
-use Rattle.grounds.specs.declared.Verdict.{Verdict}
-use Rattle.grounds.specs.declared.Verdict.TheVariants.{Accepted, Refused}
+use Rattle.std.specs.Prelude.{ℕ, List, [], Err, Ok, Result, ⊤}
+use Rattle.grounds.specs.declared.Ground.{Ground}
 use Rattle.requests.specs.declared.Request.{Request}
 use Rattle.building.specs.RequestWords.{built_words}
 use Rattle.building.specs.Building.{building_verdict}
@@ -14,9 +13,9 @@ use Rattle.refusal_text.specs.RefusalText.{unclear_text, refused_text}
 use Rattle.request_text.specs.RequestText.{words_text, reading_text}
 
 -- "`words X X ..`, .. or `refused N at 0`"
-abbrev pub built_by : Verdict → List ℕ → List ℕ
-built_by Accepted words = words_text words
-built_by (Refused why) words = refused_text why
+abbrev pub built_by : Result ⊤ Ground → List ℕ → List ℕ
+built_by (Ok _) words = words_text words
+built_by (Err why) words = refused_text why
 
 -- no request has more than five words
 abbrev pub built_text : Request → List ℕ

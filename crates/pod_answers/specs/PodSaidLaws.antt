@@ -1,19 +1,15 @@
 -- Laws of what is said to the pod's lines: the words built, and the replies read.
-use Rattle.std.specs.Prelude.{ℕ, ◌≤◌, ◌≡◌, refl, Bool, true, false, cond, List, [], ◌∷◌, ◌++◌, leb, length, take, drop}
+use Rattle.std.specs.Prelude.{ℕ, ◌≤◌, ◌≡◌, refl, Bool, true, false, cond, List, [], ◌∷◌, ◌++◌, leb, length, take, drop, Err, Ok, Result, ⊤, Option}
+use Rattle.readings.specs.declared.Outcome.{Outcome}
 use Rattle.std.proofs.Common.{ap, sym, ◌∙◌, arith, take_at, leb-true}
 use Rattle.grounds.specs.declared.Ground.{Ground}
 use Rattle.grounds.specs.declared.Ground.TheVariants.{RequestOutOfRange, BufferTooShort as WordsTooShort}
-use Rattle.grounds.specs.declared.Verdict.{Verdict}
-use Rattle.grounds.specs.declared.Verdict.TheVariants.{Accepted, Refused}
 use Rattle.grounds.specs.Grounds.{check}
 use Rattle.grounds.specs.GroundLaws.{number_is_not_zero, same_number_same_ground, accepted_holds}
 use Rattle.requests.specs.declared.Request.{Request}
 use Rattle.requests.specs.Request.{in_range}
-use Rattle.building.specs.declared.Built.{Built}
-use Rattle.building.specs.declared.Built.TheVariants.{Words, Refused as RefusedToBuild}
 use Rattle.building.specs.RequestWords.{built_words}
 use Rattle.building.specs.Building.{building_verdict, BuiltOnPaper, told_built, due_built, buffer_at, BuildingMeets}
-use Rattle.readings.specs.declared.Reading.{Reading}
 use Rattle.readings.specs.Reading.{reading, ReadingMeets}
 use Rattle.pod_laws.specs.ReadingUnique.{told_reading_unique}
 use Rattle.text.specs.Text.{Puts}
@@ -27,7 +23,7 @@ use Rattle.pod_lines.specs.TakingLaws.{values_length}
 use Rattle.pod_lines.specs.PodLines.{Meaning, nothing, builds, reads, unclear, read_answer, pod_meaning, answered, buffer_of, PodMeets}
 use Rattle.pod_answers.specs.PodSaid.{built_by, built_text, read_text, pod_text, pod_said}
 
-accepted_room : (request : Request) (room : ℕ) → building_verdict request room ≡ Accepted → length (built_words request) ≤ room
+accepted_room : (request : Request) (room : ℕ) → building_verdict request room ≡ Ok tt → length (built_words request) ≤ room
 accepted_room request room accepted =
     let has = leb (length (built_words request)) room in
     let short = (accepted_holds (in_range request) RequestOutOfRange (check has WordsTooShort ∷ []) accepted).1 in
@@ -35,35 +31,35 @@ accepted_room request room accepted =
 
 -- where words were built, they are the request's, and they have room
 module _ (request : Request) (before after : List ℕ) (count : ℕ) where
-  words_by : (v : Verdict) → (v ≡ Accepted → length (built_words request) ≤ length before) → told_built (Words count) ≡ due_built v request
+  words_by : (v : Result ⊤ Ground) → (v ≡ Ok tt → length (built_words request) ≤ length before) → told_built (Ok count) ≡ due_built v request
       → after ≡ buffer_at v request before → (count ≤ length before) × (words_text (take count after) ≡ built_by v (built_words request))
-  words_by Accepted room e f =
+  words_by (Ok _) room e f =
       let same : count ≡ length (built_words request) = ap (λ (p : BuiltOnPaper). p.count) e in
       let taken : take count after ≡ built_words request = rw f (take_at (built_words request) _ count (sym same)) in
       (omega (arith, room refl), ap words_text taken)
-  words_by (Refused why) room e f = absurd (number_is_not_zero why (sym (ap (λ (p : BuiltOnPaper). p.refusal.number) e)))
+  words_by (Err why) room e f = absurd (number_is_not_zero why (sym (ap (λ (p : BuiltOnPaper). p.refusal.number) e)))
 
-  words_there : length before ≡ 5 → BuildingMeets request before (Words count) after
+  words_there : length before ≡ 5 → BuildingMeets request before (Ok count) after
       → (count ≤ length before) × (words_text (take count after) ≡ built_text request)
   words_there five meets =
       let both = words_by (building_verdict request (length before)) (accepted_room request (length before)) meets.answer meets.buffer in
       (both.0, rw five at both.1)
 
-pub words_built : {request : Request} {before after : List ℕ} {r : Built} {count : ℕ} → length before ≡ 5 → BuildingMeets request before r after
-    → r ≡ Words count → (count ≤ length before) × (words_text (take count after) ≡ built_text request)
+pub words_built : {request : Request} {before after : List ℕ} {r : Result ℕ Ground} {count : ℕ} → length before ≡ 5 → BuildingMeets request before r after
+    → r ≡ Ok count → (count ≤ length before) × (words_text (take count after) ≡ built_text request)
 words_built {request} {before} {after} {r} {count} five meets e = words_there request before after count five (rw e at meets)
 
-refused_by : (request : Request) (why : Ground) (v : Verdict) → told_built (RefusedToBuild why) ≡ due_built v request
+refused_by : (request : Request) (why : Ground) (v : Result ⊤ Ground) → told_built (Err why) ≡ due_built v request
     → refused_text why ≡ built_by v (built_words request)
-refused_by request why Accepted e = absurd (number_is_not_zero why (ap (λ (p : BuiltOnPaper). p.refusal.number) e))
-refused_by request why (Refused other) e = ap refused_text (same_number_same_ground why other (ap (λ (p : BuiltOnPaper). p.refusal.number) e))
+refused_by request why (Ok _) e = absurd (number_is_not_zero why (ap (λ (p : BuiltOnPaper). p.refusal.number) e))
+refused_by request why (Err other) e = ap refused_text (same_number_same_ground why other (ap (λ (p : BuiltOnPaper). p.refusal.number) e))
 
-pub refused_built : {request : Request} {before after : List ℕ} {r : Built} {why : Ground} → length before ≡ 5 → BuildingMeets request before r after
-    → r ≡ RefusedToBuild why → refused_text why ≡ built_text request
+pub refused_built : {request : Request} {before after : List ℕ} {r : Result ℕ Ground} {why : Ground} → length before ≡ 5 → BuildingMeets request before r after
+    → r ≡ Err why → refused_text why ≡ built_text request
 refused_built {request} {before} {after} {r} {why} five meets e =
     rw five at (refused_by request why (building_verdict request (length before)) (ap told_built (sym e) ∙ meets.answer))
 
-pub reading_answered : {request : Request} {replies : List ℕ} {r : Reading} → ReadingMeets request replies r → r ≡ reading request replies
+pub reading_answered : {request : Request} {replies : List ℕ} {r : Result (Option Outcome × ℕ) Ground} → ReadingMeets request replies r → r ≡ reading request replies
 reading_answered {request} {replies} {r} meets = told_reading_unique r (reading request replies) meets.answer
 
 -- what is said to what a line was read as, its replies in the buffer

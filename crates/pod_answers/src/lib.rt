@@ -7,7 +7,6 @@ ghost use Rattle.request_text.specs.RequestText.{reading_text};
 ghost use Rattle.readings.specs.Reading.{reading};
 ghost use Rattle.pod_answers.specs.PodSaid.{built_text, pod_said};
 
-use building::Built;
 use pod_lines::PodLine;
 use refusal_text::{put_refusal, put_unclear};
 use request_text::{put_reading, put_words};
@@ -18,8 +17,8 @@ fn build(request: Request, text: &mut [u8]) -> usize
 {
     let mut buffer = [0u32; 5];
     match building::build(request, &mut buffer) {
-        Built::Words(count) => put_words(text, &buffer[..count]),
-        Built::Refused(ground) => put_refusal(text, ground),
+        Ok(count) => put_words(text, &buffer[..count]),
+        Err(ground) => put_refusal(text, ground),
     }
 }
 

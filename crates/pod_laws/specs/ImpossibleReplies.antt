@@ -1,11 +1,9 @@
 -- The pod's half (01, by eye): ground 14, "a reply that the request can't have", as 01 lists such replies.
-use Rattle.std.specs.Prelude.{ℕ, ◌≤◌, ◌<◌, ◌≡◌, ◌≢◌, cond, List, [], ◌∷◌, ◌++◌, leb, length}
+use Rattle.std.specs.Prelude.{ℕ, ◌≤◌, ◌<◌, ◌≡◌, ◌≢◌, cond, List, [], ◌∷◌, ◌++◌, leb, length, None, Option, Some, Ok}
+use Rattle.memory.specs.declared.Size.{Size}
 use Rattle.memory.specs.declared.Size.TheVariants.{Byte}
 use Rattle.requests.specs.declared.Request.{Request}
-use Rattle.requests.specs.declared.ResultKind.{ResultKind}
-use Rattle.requests.specs.declared.ResultKind.TheVariants.{NoResult, OfSize}
 use Rattle.requests.specs.Request.{kind_of}
-use Rattle.readings.specs.declared.Reading.TheVariants.{NotYet}
 use Rattle.readings.specs.Reading.{reading}
 
 -- the result word that is still to come
@@ -18,15 +16,15 @@ abbrev pub NotInTheList : ℕ → Type 0
 NotInTheList reply = (reply ≢ 0x10000) × (reply ≢ 0x10001) × (reply ≢ 0x1FFFF)
 
 -- S is bit 16 of a reply
-pub data Impossible : ResultKind → WordDue → ℕ → Type 0 where
+pub data Impossible : Option Size → WordDue → ℕ → Type 0 where
   -- "S=1 in the second result word"
-  second_with_s : {kind : ResultKind} {reply : ℕ} → 0x10000 ≤ reply → Impossible kind second reply
+  second_with_s : {kind : Option Size} {reply : ℕ} → 0x10000 ≤ reply → Impossible kind second reply
   -- "S=1 data not in the list"
-  not_listed : {kind : ResultKind} {due : WordDue} {reply : ℕ} → 0x10000 ≤ reply → NotInTheList reply → Impossible kind due reply
+  not_listed : {kind : Option Size} {due : WordDue} {reply : ℕ} → 0x10000 ≤ reply → NotInTheList reply → Impossible kind due reply
   -- "a byte result above 0xFF"
-  byte_above : {reply : ℕ} → reply ≤ 0xFFFF → 0xFF < reply → Impossible (OfSize Byte) first reply
+  byte_above : {reply : ℕ} → reply ≤ 0xFFFF → 0xFF < reply → Impossible (Some Byte) first reply
   -- "S=0 other than 0xFFFF for a command without result"
-  not_complete : {reply : ℕ} → reply ≤ 0xFFFF → reply ≢ 0xFFFF → Impossible NoResult first reply
+  not_complete : {reply : ℕ} → reply ≤ 0xFFFF → reply ≢ 0xFFFF → Impossible None first reply
 
 -- while it is not yet, data that is in is the upper of two words
 abbrev pub due_after : List ℕ → WordDue
@@ -39,6 +37,6 @@ pub record ImpossibleAmong (request : Request) (replies : List ℕ) : Type 0 whe
   pub reply : ℕ
   pub unread : List ℕ
   pub place : replies ≡ before ++ reply ∷ unread
-  pub not_yet : reading request before ≡ NotYet (length before)
+  pub not_yet : reading request before ≡ Ok (None, length before)
   pub within : reply ≤ 0x1FFFF
   pub impossible : Impossible (kind_of request) (due_after before) reply

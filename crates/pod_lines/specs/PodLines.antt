@@ -1,5 +1,5 @@
 -- The desk's language: the lines of `pod`.
-use Rattle.std.specs.Prelude.{ℕ, ◌≡◌, cond, List, [], ◌∷◌, length}
+use Rattle.std.specs.Prelude.{ℕ, ◌≡◌, cond, List, [], ◌∷◌, length, None, Some}
 use Rattle.std.proofs.Math.Option.{Option, none, some}
 use Rattle.requests.specs.declared.Request.{Request}
 use Rattle.words.specs.declared.LineKind.{LineKind}
@@ -9,8 +9,6 @@ use Rattle.pod_lines.specs.declared.Taken.TheVariants.{Count, TooMany, NotAllNum
 use Rattle.words.specs.LineWords.{ascii, kind_of, words, same}
 use Rattle.words.specs.NameTable.{row, found}
 use Rattle.pod_lines.specs.Taking.{counted, taken, buffer_after}
-use Rattle.request_lines.specs.declared.Asked.{Asked}
-use Rattle.request_lines.specs.declared.Asked.TheVariants.{For, NoRequest}
 use Rattle.pod_lines.specs.declared.PodLine.{PodLine}
 use Rattle.pod_lines.specs.declared.PodLine.TheVariants.{Nothing, Build, Read, BufferTooShort, Unclear}
 use Rattle.request_lines.specs.RequestLines.{request_of}
@@ -32,15 +30,15 @@ after_colon [] = none
 after_colon (word ∷ rest) = cond (same word (ascii ":")) (some rest) (after_colon rest)
 
 -- `build REQUEST`
-abbrev pub build_line : Asked → Meaning
-build_line (For request) = builds request
-build_line NoRequest = unclear
+abbrev pub build_line : Option Request → Meaning
+build_line (Some request) = builds request
+build_line None = unclear
 
 -- `read REQUEST : X X ..`; "The words of `read` may be none."
-abbrev pub read_line : Asked → Option (List (List ℕ)) → Meaning
-read_line (For request) (some replies) = reads request replies
-read_line (For request) none = unclear
-read_line NoRequest replies = unclear
+abbrev pub read_line : Option Request → Option (List (List ℕ)) → Meaning
+read_line (Some request) (some replies) = reads request replies
+read_line (Some request) none = unclear
+read_line None replies = unclear
 
 unfoldable pub pod_words : List (List ℕ) → Meaning
 pod_words [] = unclear

@@ -1,13 +1,11 @@
 -- A law of `pod`: a buffer of 2,048 words has room for the reply words of any line.
-use Rattle.std.specs.Prelude.{ℕ, ◌≤◌, ◌≡◌, refl, Bool, true, false, cond, List, [], ◌∷◌, leb, length}
+use Rattle.std.specs.Prelude.{ℕ, ◌≤◌, ◌≡◌, refl, Bool, true, false, cond, List, [], ◌∷◌, leb, length, None, Some}
 use Rattle.std.proofs.Common.{arith, leb-true}
 use Rattle.std.proofs.Math.Option.{Option, none, some}
 use Rattle.requests.specs.declared.Request.{Request}
 use Rattle.words.specs.declared.LineKind.TheVariants.{Silent, Clear, TooLong}
 use Rattle.words.specs.LineWords.{ascii, is_silent, kind_of, words, same}
 use Rattle.words.specs.GapLaws.{words_few}
-use Rattle.request_lines.specs.declared.Asked.{Asked}
-use Rattle.request_lines.specs.declared.Asked.TheVariants.{For, NoRequest}
 use Rattle.request_lines.specs.RequestLines.{request_of}
 use Rattle.pod_lines.specs.PodLines.{reads, unclear, before_colon, after_colon, build_line, read_line, pod_words, pod_at, pod_meaning}
 
@@ -22,15 +20,15 @@ after_fewer (w ∷ rest) replies e = by_test (after_fewer rest replies) (same w 
     by_test ih false e = omega (arith, ih e)
 
 -- what a reading says of its line
-build_reads : (asked : Asked) (request : Request) (replies : List (List ℕ)) → build_line asked ≡ reads request replies → ◌≡◌ {A = ℕ} 0 1
-build_reads (For r) request replies e = cc
-build_reads NoRequest request replies e = cc
+build_reads : (asked : Option Request) (request : Request) (replies : List (List ℕ)) → build_line asked ≡ reads request replies → ◌≡◌ {A = ℕ} 0 1
+build_reads (Some r) request replies e = cc
+build_reads None request replies e = cc
 
-read_reads : (asked : Asked) (behind : Option (List (List ℕ))) (request : Request) (replies : List (List ℕ)) → read_line asked behind ≡ reads request replies
+read_reads : (asked : Option Request) (behind : Option (List (List ℕ))) (request : Request) (replies : List (List ℕ)) → read_line asked behind ≡ reads request replies
     → behind ≡ some replies
-read_reads (For r) (some words) request replies e = cc
-read_reads (For r) none request replies e = cc
-read_reads NoRequest behind request replies e = cc
+read_reads (Some r) (some words) request replies e = cc
+read_reads (Some r) none request replies e = cc
+read_reads None behind request replies e = cc
 
 words_fewer : (ws : List (List ℕ)) (request : Request) (replies : List (List ℕ)) → pod_words ws ≡ reads request replies → length replies ≤ length ws
 unfolding pod_words

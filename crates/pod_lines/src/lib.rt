@@ -9,7 +9,6 @@ ghost use Rattle.pod_lines.specs.PodLines.{Meaning, before_colon, after_colon, r
 ghost use Rattle.pod_lines.specs.PodLinesMirror.{behind};
 
 use numbers::Numbers;
-use request_lines::Asked;
 use requests::Request;
 use words::LineKind;
 
@@ -36,18 +35,11 @@ pub enum Taken {
     NotAllNumbers,
 }
 
-// Where the word `:` ends.
-#[derive(Clone, Copy)]
-pub enum Colon {
-    At(usize),
-    NoColon,
-}
-
 // The numbers before the colon, and where it ends.
 #[derive(Clone, Copy)]
 pub struct Parted {
     pub numbers: Numbers,
-    pub colon: Colon,
+    pub colon: Option<usize>,
 }
 
 fn part_at_colon(line: &[u8], from: usize) -> Parted
@@ -61,14 +53,14 @@ fn part_at_colon(line: &[u8], from: usize) -> Parted
         if line.len() <= start {
             return Parted {
                 numbers: before,
-                colon: Colon::NoColon,
+                colon: None,
             };
         }
         let stop = words::word_end(line, start);
         if words::is_same(&line[start..stop], b":") {
             return Parted {
                 numbers: before,
-                colon: Colon::At(stop),
+                colon: Some(stop),
             };
         }
         before = numbers::add_number(before, numbers::read_number(&line[start..stop]));
@@ -86,15 +78,15 @@ fn take_replies(request: Request, line: &[u8], from: usize, buffer: &mut [u32]) 
     }
 }
 
-fn read_reading(asked: Asked, colon: Colon, line: &[u8], buffer: &mut [u32]) -> PodLine
+fn read_reading(asked: Option<Request>, colon: Option<usize>, line: &[u8], buffer: &mut [u32]) -> PodLine
     ensures { PodMeets (read_line asked (behind line.now colon)) buffer.old result buffer.new }
 {
     match asked {
-        Asked::For(request) => match colon {
-            Colon::At(end) => take_replies(request, line, end, buffer),
-            Colon::NoColon => PodLine::Unclear,
+        Some(request) => match colon {
+            Some(end) => take_replies(request, line, end, buffer),
+            None => PodLine::Unclear,
         },
-        Asked::NoRequest => PodLine::Unclear,
+        None => PodLine::Unclear,
     }
 }
 
@@ -128,8 +120,8 @@ fn read_words(line: &[u8], buffer: &mut [u32]) -> PodLine
     let stop = words::word_end(line, start);
     if words::is_same(&line[start..stop], b"build") {
         match request_lines::read_request(line, stop) {
-            Asked::For(request) => return PodLine::Build(request),
-            Asked::NoRequest => return PodLine::Unclear,
+            Some(request) => return PodLine::Build(request),
+            None => return PodLine::Unclear,
         }
     }
     if words::is_same(&line[start..stop], b"read") {

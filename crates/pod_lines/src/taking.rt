@@ -6,14 +6,13 @@ ghost use Rattle.numbers.specs.Numbers.{value, is_numeral};
 ghost use Rattle.pod_lines.specs.Taking.{all_numerals, values, counted, TakingMeets};
 
 use crate::Taken;
-use numbers::Numeral;
 
 fn is_number(word: &[u8]) -> bool
     ensures { result ≡ is_numeral word.now }
 {
     match numbers::read_number(word) {
-        Numeral::Value(_) => true,
-        Numeral::NoNumber => false,
+        Some(_) => true,
+        None => false,
     }
 }
 
@@ -22,8 +21,8 @@ fn value_of(word: &[u8]) -> u32
     ensures { result ≡ value word.now }
 {
     match numbers::read_number(word) {
-        Numeral::Value(n) => n,
-        Numeral::NoNumber => 0,
+        Some(n) => n,
+        None => 0,
     }
 }
 

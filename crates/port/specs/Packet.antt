@@ -1,19 +1,15 @@
 -- Packets (01): one packet. The grounds on which it is refused, and the promise: for every input its answer, the new state and each byte of memory.
-use Rattle.std.specs.Prelude.{ℕ, ◌≡◌, List, [], ◌∷◌, leb, length}
+use Rattle.std.specs.Prelude.{ℕ, ◌≡◌, List, [], ◌∷◌, leb, length, Err, Ok, Result, ⊤}
 use Rattle.grounds.specs.declared.Ground.{Ground}
 use Rattle.grounds.specs.declared.Ground.TheVariants.{WordTooLarge, MemoryTooLong, StateOutOfRange}
-use Rattle.grounds.specs.declared.Verdict.{Verdict}
-use Rattle.grounds.specs.declared.Verdict.TheVariants.{Accepted, Refused}
 use Rattle.grounds.specs.Grounds.{number, check, judge, Refusal, no_refusal, refusal_of, if_accepted}
 use Rattle.ranges.specs.Ranges.{in_range}
 use Rattle.board.specs.State.{State, state_of}
 use Rattle.step.specs.Step.{reply_now, stepped}
 use Rattle.port.specs.declared.Answer.{Answer}
-use Rattle.port.specs.declared.Outcome.{Outcome}
-use Rattle.port.specs.declared.Outcome.TheVariants.{Reply, Refusing}
 
 -- "Order: packets 12, 3, 1"
-unfoldable pub packet_verdict : State → ℕ → Verdict
+unfoldable pub packet_verdict : State → ℕ → Result ⊤ Ground
 packet_verdict s word =
     judge
     (check (in_range s.board s.place) StateOutOfRange
@@ -26,13 +22,13 @@ pub record PacketTold : Type 0 where
   pub refusal : Refusal
   pub reply : ℕ
 
-abbrev pub told_packet : Outcome → PacketTold
-told_packet (Reply reply) = record { refusal = no_refusal; reply = reply }
-told_packet (Refusing why) = record { refusal = refusal_of why; reply = 0 }
+abbrev pub told_packet : Result ℕ Ground → PacketTold
+told_packet (Ok reply) = record { refusal = no_refusal; reply = reply }
+told_packet (Err why) = record { refusal = refusal_of why; reply = 0 }
 
-abbrev pub answered : Verdict → ℕ → Outcome
-answered Accepted reply = Reply reply
-answered (Refused g) reply = Refusing g
+abbrev pub answered : Result ⊤ Ground → ℕ → Result ℕ Ground
+answered (Ok _) reply = Ok reply
+answered (Err g) reply = Err g
 
 pub record PacketMeets (s : State) (word : ℕ) (r : Answer) (after : List ℕ) : Type 0 where
   -- the refusal, or the reply fixed by the state before

@@ -6,53 +6,47 @@ ghost use Rattle.board.specs.State.{state_of};
 ghost use Rattle.port.specs.Packet.{packet_verdict, PacketMeets};
 
 use board::{Board, Place};
-use grounds::{Ground, Verdict};
-
-#[derive(Clone, Copy)]
-pub enum Outcome {
-    Reply(u32),
-    Refusing(Ground),
-}
+use grounds::Ground;
 
 #[derive(Clone, Copy)]
 pub struct Answer {
-    pub outcome: Outcome,
+    pub outcome: Result<u32, Ground>,
     pub board: Board,
     pub place: Place,
 }
 
-fn judge_packet(board: Board, place: Place, memory: &[u8], word: u32) -> Verdict
+fn judge_packet(board: Board, place: Place, memory: &[u8], word: u32) -> Result<(), Ground>
     ensures { result ≡ packet_verdict (state_of board place memory.now) word }
 {
     if ranges::is_in_range(board, place) {
         if memory.len() <= 65536 {
             if word <= 0x1FFFF {
-                return Verdict::Accepted;
+                return Ok(());
             }
-            return Verdict::Refused(Ground::WordTooLarge);
+            return Err(Ground::WordTooLarge);
         }
-        return Verdict::Refused(Ground::MemoryTooLong);
+        return Err(Ground::MemoryTooLong);
     }
-    Verdict::Refused(Ground::StateOutOfRange)
+    Err(Ground::StateOutOfRange)
 }
 
 pub fn take_packet(board: Board, place: Place, memory: &mut [u8], word: u32) -> Answer
     ensures { PacketMeets (state_of board place memory.old) word result memory.new }
 {
     match judge_packet(board, place, memory, word) {
-        Verdict::Accepted => {
+        Ok(()) => {
             let reply = step::reply_of(place);
             let next = step::take_word(board, place, memory, word);
             let board_next = next.board;
             let place_next = next.place;
             Answer {
-                outcome: Outcome::Reply(reply),
+                outcome: Ok(reply),
                 board: board_next,
                 place: place_next,
             }
         }
-        Verdict::Refused(ground) => Answer {
-            outcome: Outcome::Refusing(ground),
+        Err(ground) => Answer {
+            outcome: Err(ground),
             board: board,
             place: place,
         },

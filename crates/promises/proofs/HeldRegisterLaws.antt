@@ -1,11 +1,10 @@
 -- Laws: a command under way holds a register number below 16, in every state that a history leads to.
-use Rattle.std.specs.Prelude.{ℕ, ◌/◌, ◌%◌, ◌-◌, ◌<◌, ◌≡◌, refl, Bool, true, cond, ◌&&◌, List, [], ◌∷◌, eqb}
+use Rattle.std.specs.Prelude.{ℕ, ◌/◌, ◌%◌, ◌-◌, ◌<◌, ◌≡◌, refl, Bool, true, cond, ◌&&◌, List, [], ◌∷◌, eqb, Err, Ok, Result, ⊤}
+use Rattle.grounds.specs.declared.Ground.{Ground}
 use Rattle.std.proofs.Common.{arith, eqb-true}
 use Rattle.laws.specs.TestLaws.{either, both_hold}
 use Rattle.command.specs.declared.Command.{Command}
 use Rattle.command.specs.Command.{Row, table, looked_up, decoded_word, decoded, rdreg, wdreg, operand_words}
-use Rattle.grounds.specs.declared.Verdict.{Verdict}
-use Rattle.grounds.specs.declared.Verdict.TheVariants.{Accepted, Refused}
 use Rattle.grounds.specs.Grounds.{if_accepted}
 use Rattle.board.specs.declared.Operands.{Operands}
 use Rattle.board.specs.declared.Phase.{Phase}
@@ -101,9 +100,9 @@ packet_keeps_register s word h =
 call_keeps_register : (s : State) (c : Call) → register_held s.place.phase < 16 → register_held (after_call stand_in s c).place.phase < 16
 call_keeps_register s (packet m word) h = by (packet_verdict (lending s m) word)
   where
-    by : (v : Verdict) → register_held (if_accepted v (stepped (lending s m) word) (lending s m)).place.phase < 16
-    by Accepted = packet_keeps_register (lending s m) word h
-    by (Refused g) = h
+    by : (v : Result ⊤ Ground) → register_held (if_accepted v (stepped (lending s m) word) (lending s m)).place.phase < 16
+    by (Ok _) = packet_keeps_register (lending s m) word h
+    by (Err g) = h
 call_keeps_register s (event e) h = h
 call_keeps_register s breakpoint h = h
 

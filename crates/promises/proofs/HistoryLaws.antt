@@ -1,11 +1,10 @@
 -- Demand 3: what every call of a history keeps, and a history as one place in the environment that its calls make.
-use Rattle.std.specs.Prelude.{ℕ, ◌≤◌, ◌≡◌, refl, true, leb, length}
+use Rattle.std.specs.Prelude.{ℕ, ◌≤◌, ◌≡◌, refl, true, leb, length, Err, Ok, Result, ⊤}
+use Rattle.grounds.specs.declared.Ground.{Ground}
 use Rattle.std.proofs.Common.{ap, leb-true}
 use mathlib.Core.List.{List, [], ◌∷◌, ◌++◌}
 use Rattle.laws.specs.TestLaws.{both_hold}
 use Rattle.grounds.specs.declared.Ground.TheVariants.{WordTooLarge, MemoryTooLong, StateOutOfRange}
-use Rattle.grounds.specs.declared.Verdict.{Verdict}
-use Rattle.grounds.specs.declared.Verdict.TheVariants.{Accepted, Refused}
 use Rattle.grounds.specs.Grounds.{check, if_accepted}
 use Rattle.grounds.specs.GroundLaws.{accepted_holds}
 use Rattle.board.specs.declared.Board.{Board}
@@ -35,7 +34,7 @@ pub fresh_fits : (w : ℕ) → w ≤ 15 → Fits w (made w)
 fresh_fits w small = record { board = fresh_board_is_sound w small; place = fresh_place_is_sound w }
 
 -- an accepted packet has passed grounds 3 and 1
-accepted_within : (s : State) (word : ℕ) → packet_verdict s word ≡ Accepted → (length s.memory ≤ 65536) × (word ≤ 0x1FFFF)
+accepted_within : (s : State) (word : ℕ) → packet_verdict s word ≡ Ok tt → (length s.memory ≤ 65536) × (word ≤ 0x1FFFF)
 unfolding packet_verdict
 accepted_within s word e =
     let small = check (leb word 0x1FFFF) WordTooLarge ∷ [] in
@@ -66,10 +65,10 @@ module _ (w : ℕ) (s : State) (h : Fits w s) where
       (status_keeps w s.board h.board after.status (ranged_bstat after s.place (breakpoint_keeps_ranges s.board s.place ranged)))
 
   -- "Order: packets 12, 3, 1": none of them
-  pub within_is_accepted : (m : Lent) (word : ℕ) → length m.bytes ≤ 65536 → word ≤ 0x1FFFF → packet_verdict (lending s m) word ≡ Accepted
+  pub within_is_accepted : (m : Lent) (word : ℕ) → length m.bytes ≤ 65536 → word ≤ 0x1FFFF → packet_verdict (lending s m) word ≡ Ok tt
   within_is_accepted m word limit small = no_other (lending s m) word ranged limit small
 
-  memory_fits : (m : Lent) (word : ℕ) → packet_verdict (lending s m) word ≡ Accepted → SoundMemory m.bytes
+  memory_fits : (m : Lent) (word : ℕ) → packet_verdict (lending s m) word ≡ Ok tt → SoundMemory m.bytes
   memory_fits m word e = record { bytes = m.narrow; limit = (accepted_within (lending s m) word e).0 }
 
   pub packet_fits : (m : Lent) (word : ℕ) → SoundMemory m.bytes → Fits w (stepped (lending s m) word)
@@ -81,18 +80,18 @@ module _ (w : ℕ) (s : State) (h : Fits w s) where
   pub call_fits : (c : Call) → Fits w (after_call stand_in s c)
   call_fits (packet m word) = by (packet_verdict (lending s m) word) refl
     where
-      by : (v : Verdict) → packet_verdict (lending s m) word ≡ v → Fits w (if_accepted v (stepped (lending s m) word) (lending s m))
-      by Accepted e = packet_fits m word (memory_fits m word e)
-      by (Refused g) e = record { board = h.board; place = h.place }
+      by : (v : Result ⊤ Ground) → packet_verdict (lending s m) word ≡ v → Fits w (if_accepted v (stepped (lending s m) word) (lending s m))
+      by (Ok _) e = packet_fits m word (memory_fits m word e)
+      by (Err g) e = record { board = h.board; place = h.place }
   call_fits (event e) = record { board = event_fits e; place = h.place }
   call_fits breakpoint = record { board = breakpoint_fits; place = h.place }
 
   found_fits : (c : Call) (fs : List Found) → AllFit w fs → AllFit w (found_by stand_in s c fs)
   found_fits (packet m word) fs others = by (packet_verdict (lending s m) word) refl
     where
-      by : (v : Verdict) → packet_verdict (lending s m) word ≡ v → AllFit w (if_accepted v (finding s m word ∷ fs) fs)
-      by Accepted e = more (record { board = h.board; memory = memory_fits m word e; word = (accepted_within (lending s m) word e).1 }) others
-      by (Refused g) e = others
+      by : (v : Result ⊤ Ground) → packet_verdict (lending s m) word ≡ v → AllFit w (if_accepted v (finding s m word ∷ fs) fs)
+      by (Ok _) e = more (record { board = h.board; memory = memory_fits m word e; word = (accepted_within (lending s m) word e).1 }) others
+      by (Err g) e = others
   found_fits (event e) fs others = others
   found_fits breakpoint fs others = others
 
@@ -114,14 +113,14 @@ after_both s [] ys = refl
 after_both s (x ∷ xs) ys = after_both (after_call stand_in s x) xs ys
 
 -- the place that a history leads to is the place of its trail
-along : (v : Verdict) (s taken : State) (t : Trail) (f : Found) (cs : List Call)
+along : (v : Result ⊤ Ground) (s taken : State) (t : Trail) (f : Found) (cs : List Call)
     → (after stand_in taken cs).place ≡ (trail stand_in (noted stand_in t f) (finds stand_in taken cs)).place
     → (after stand_in s cs).place ≡ (trail stand_in t (finds stand_in s cs)).place
     → (after stand_in (if_accepted v taken s) cs).place
     ≡ (trail stand_in t (if_accepted v (f ∷ finds stand_in (if_accepted v taken s) cs) (finds stand_in (if_accepted v taken s) cs))).place
 unfolding trail
-along Accepted s taken t f cs accepted refused = accepted
-along (Refused g) s taken t f cs accepted refused = refused
+along (Ok _) s taken t f cs accepted refused = accepted
+along (Err g) s taken t f cs accepted refused = refused
 
 pub place_of_trail : (s : State) (t : Trail) (cs : List Call) → s.place ≡ t.place → (after stand_in s cs).place ≡ (trail stand_in t (finds stand_in s cs)).place
 unfolding after finds trail

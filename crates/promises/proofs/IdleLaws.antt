@@ -1,12 +1,11 @@
 -- Demand 3: NOPs after a history. Each is accepted, and what comes between them makes no difference.
 use Prim.Native.Nat.{ℕ, suc, ◌+◌, ◌≤◌}
-use Rattle.std.specs.Prelude.{◌≡◌}
+use Rattle.std.specs.Prelude.{◌≡◌, Ok}
 use Rattle.std.proofs.Math.Path.{refl, ap, subst₂}
 use Rattle.std.proofs.Common.{sym, ap₂, arith}
 use Rattle.std.proofs.Math.Bool.{cond}
 use mathlib.Core.List.{List, ◌∷◌}
 use Rattle.std.proofs.Math.ListN.{length}
-use Rattle.grounds.specs.declared.Verdict.TheVariants.{Accepted}
 use Rattle.board.specs.declared.Board.{Board}
 use Rattle.board.specs.declared.Place.{Place}
 use Rattle.board.specs.declared.Status.{Status}
@@ -44,7 +43,7 @@ same_with_status a b s h = record { setting = h.setting; registers = h.registers
 
 module _ (w : ℕ) where
   module _ (s : State) (h : Fits w s) (m : Lent) (limit : length m.bytes ≤ 65536) where
-    accepted : packet_verdict (lending s m) 0 ≡ Accepted
+    accepted : packet_verdict (lending s m) 0 ≡ Ok tt
     accepted = within_is_accepted w s h m 0 limit (omega arith)
 
     lent_fits : SoundMemory m.bytes
@@ -89,8 +88,8 @@ module _ (w : ℕ) where
   still_alike s r ms idle (nop {ms = ns} {cs = cs} m limit i) hs hr alike =
       let next : StillAlike (stepped (lending s m) 0) (stepped (lending r m) 0) ns cs =
       still_alike (stepped (lending s m) 0) (stepped (lending r m) 0) ns cs i (nop_fits s hs m limit) (nop_fits r hr m limit) (alike_nop s r hr alike m) in
-      let taken : packet_verdict (lending s m) 0 ≡ Accepted = accepted s hs m limit in
-      let too : packet_verdict (lending r m) 0 ≡ Accepted = accepted r hr m limit in
+      let taken : packet_verdict (lending s m) 0 ≡ Ok tt = accepted s hs m limit in
+      let too : packet_verdict (lending r m) 0 ≡ Ok tt = accepted r hr m limit in
       record {
         number = rw (taken, too) (ap₂ (λ (p : Place) (n : ℕ). cond (at_rest p.phase) 0 1 + n) alike.place next.number);
         ends = subst₂ Alike (sym (nop_after s hs m limit cs)) (sym (nop_after r hr m limit (nops ns))) next.ends;

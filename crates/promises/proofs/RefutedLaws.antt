@@ -1,13 +1,12 @@
 -- Demand 3 cannot be met trivially: said of a machine that breaks a rule it is false.
-use Rattle.std.specs.Prelude.{ℕ, zero, suc, ◌-◌, ◌≤◌, ◌≡◌, Bool, false, cond, ◌&&◌, eqb, replicate}
+use Rattle.std.specs.Prelude.{ℕ, zero, suc, ◌-◌, ◌≤◌, ◌≡◌, Bool, false, cond, ◌&&◌, eqb, replicate, Err, Ok, Result, ⊤}
+use Rattle.grounds.specs.declared.Ground.{Ground}
 use Rattle.std.proofs.Common.{sym, ap, ◌∙◌}
 use Rattle.std.proofs.Math.Bool.{true, true≢false}
 use mathlib.Core.List.{List, [], ◌∷◌}
 use Rattle.std.proofs.Math.ListN.{length}
 use native.Mathlib.Omega.{arith}
 use Rattle.grounds.specs.declared.Ground.TheVariants.{WordTooLarge}
-use Rattle.grounds.specs.declared.Verdict.{Verdict}
-use Rattle.grounds.specs.declared.Verdict.TheVariants.{Accepted, Refused}
 use Rattle.grounds.specs.Grounds.{told}
 use Rattle.command.specs.Command.{decoded, decoded_word}
 use Rattle.command.specs.Reply.{illegal}
@@ -56,7 +55,7 @@ module _ (k : Machine) (rests : (s : State) (word : ℕ) → (k.step s word).pla
   pub always_at_rest : Demand3 k → ⊥
   unfolding fresh_board fresh_place trail finds after stage decoded decoded_word
   always_at_rest d =
-      let taken : k.verdict (lending (made 2) no_memory) 0x1980 ≡ Accepted =
+      let taken : k.verdict (lending (made 2) no_memory) 0x1980 ≡ Ok tt =
       (d.rest 2 (omega arith) []).accepted no_memory 0x1980 (omega arith) (omega arith) in
       rests_too_soon (rw taken at (d.closing 2 (omega arith) (packet no_memory 0x1980 ∷ [])).closes.rests)
 
@@ -71,7 +70,7 @@ module _ (k : Machine) (moves : (s : State) (word : ℕ) → at_rest (k.step s w
   unfolding after
   never_at_rest d =
       let five : List Call = sends no_memory (replicate 5 0) in
-      let taken : k.verdict (lending (after k (made 2) five) no_memory) 0 ≡ Accepted =
+      let taken : k.verdict (lending (after k (made 2) five) no_memory) 0 ≡ Ok tt =
       (d.rest 2 (omega arith) five).accepted no_memory 0 (omega arith) (omega arith) in
       let brought : at_rest (after k (after k (made 2) five) (packet no_memory 0 ∷ [])).place.phase ≡ true =
       ((d.rest 2 (omega arith) []).nops (replicate 6 no_memory) (sends no_memory (replicate 6 0)) six_nops).enough (omega arith) in
@@ -94,7 +93,7 @@ module _ (k : Machine) (moves : (s : State) (word : ℕ) → at_rest (k.step s w
 -- A port that takes NOPs and nothing else: all else that it promises may hold, since nothing is ever under way.
 abbrev pub only_nops : Machine
 only_nops = record {
-  verdict = λ s word. cond (eqb word 0) (packet_verdict s word) (Refused WordTooLarge);
+  verdict = λ s word. cond (eqb word 0) (packet_verdict s word) (Err WordTooLarge);
   reply = stand_in.reply;
   step = stand_in.step;
   event = stand_in.event;
@@ -103,11 +102,11 @@ only_nops = record {
 
 pub refuses_all_but_nops : Demand3 only_nops → ⊥
 refuses_all_but_nops d =
-    let taken : Refused WordTooLarge ≡ Accepted = (d.rest 2 (omega arith) []).accepted no_memory 1 (omega arith) (omega arith) in
-    let z : ◌≡◌ {A = ℕ} (number_told (Refused WordTooLarge)) (number_told Accepted) = ap number_told taken in
+    let taken : Err WordTooLarge ≡ Ok tt = (d.rest 2 (omega arith) []).accepted no_memory 1 (omega arith) (omega arith) in
+    let z : ◌≡◌ {A = ℕ} (number_told (Err WordTooLarge)) (number_told (Ok tt)) = ap number_told taken in
     omega arith
   where
-    number_told : Verdict → ℕ
+    number_told : Result ⊤ Ground → ℕ
     number_told v = (told v).number
 
 -- An event that moves the phase, or anything else of the place that a history leads to.

@@ -1,14 +1,13 @@
 -- The promises are about the code: an accepted run of packets (`take_packets`) is a history of its packets, each lent the memory that the
 -- one before it left, and their closing replies are the run's. A refused run changes nothing, so that it is no call at all.
 use Prim.Native.Nat.{ℕ, zero, suc, ◌%◌, ◌≤◌, ◌<◌}
-use Rattle.std.specs.Prelude.{◌≡◌, true, leb, get_or, take, drop}
+use Rattle.std.specs.Prelude.{◌≡◌, true, leb, get_or, take, drop, Ok}
 use Rattle.std.proofs.Math.Path.{refl, ap}
 use Rattle.std.proofs.Common.{sym, ap₂, ◌∙◌, arith, leb-true}
 use mathlib.Core.List.{List, [], ◌∷◌, ◌++◌, map}
 use Rattle.std.proofs.Math.ListN.{length}
 use Rattle.laws.specs.TestLaws.{both_hold}
 use Rattle.grounds.specs.declared.Ground.TheVariants.{WordTooLarge, MemoryTooLong, BufferTooShort, StateOutOfRange}
-use Rattle.grounds.specs.declared.Verdict.TheVariants.{Accepted}
 use Rattle.grounds.specs.Grounds.{check, if_accepted}
 use Rattle.grounds.specs.GroundLaws.{accepted_holds}
 use Rattle.memory.specs.Memory.{AllBelow}
@@ -42,7 +41,7 @@ lent_again : (s : State) → AllBelow 256 s.memory → lending s (lent_as s.memo
 lent_again s h = ap (λ (m : List ℕ). state_of s.board s.place m) (bytes_as_they_are s.memory h)
 
 -- an accepted packet that is lent the state's own memory: what calls leave and find from there on
-module _ (s : State) (m : Lent) (word : ℕ) (calls : List Call) (own : lending s m ≡ s) (accepted : packet_verdict s word ≡ Accepted) where
+module _ (s : State) (m : Lent) (word : ℕ) (calls : List Call) (own : lending s m ≡ s) (accepted : packet_verdict s word ≡ Ok tt) where
   own_after : after stand_in s (packet m word ∷ calls) ≡ after stand_in (stepped s word) calls
   unfolding after
   own_after = ap (λ (x : State). after stand_in (if_accepted (packet_verdict x word) (stepped x word) x) calls) own ∙ rw accepted
@@ -69,7 +68,7 @@ module _ (w : ℕ) where
   run_is (word ∷ words) s h l e =
       let both = both_hold (leb word 0x1FFFF) (run.all_within words) e in
       let lent : Lent = record { bytes = s.memory; narrow = l.bytes } in
-      let taken : packet_verdict s word ≡ Accepted = within_is_accepted w s h lent word l.limit (leb-true word 0x1FFFF both.0) in
+      let taken : packet_verdict s word ≡ Ok tt = within_is_accepted w s h lent word l.limit (leb-true word 0x1FFFF both.0) in
       let next : IsRun (stepped s word) words =
       run_is words (stepped s word) (packet_fits w s h lent word l) (packet_keeps_memory w s h.board h.place l word) both.1 in
       let calls = packets_of (stepped s word) words in
@@ -82,7 +81,7 @@ module _ (w : ℕ) where
       }
 
 -- an accepted run has passed grounds 3 and 1
-accepted_run : (s : State) (words : List ℕ) (room : ℕ) → run.run_verdict s words room ≡ Accepted → (length s.memory ≤ 65536) × (run.all_within words ≡ true)
+accepted_run : (s : State) (words : List ℕ) (room : ℕ) → run.run_verdict s words room ≡ Ok tt → (length s.memory ≤ 65536) × (run.all_within words ≡ true)
 unfolding run.run_verdict
 accepted_run s words room e =
     let fits = check (leb (length words) room) BufferTooShort ∷ [] in
@@ -118,7 +117,7 @@ after_lending s m next (word ∷ words) = refl
 
 module _ (w : ℕ) (small : w ≤ 15) (history : List Call) (m : Lent) (words before : List ℕ) (r : Ran) (memory out : List ℕ)
     (meets : run.RunMeets (lending (after stand_in (made w) history) m) words before r memory out)
-    (accepted : run.run_verdict (lending (after stand_in (made w) history) m) words (length before) ≡ Accepted) where
+    (accepted : run.run_verdict (lending (after stand_in (made w) history) m) words (length before) ≡ Ok tt) where
   abbrev found : State
   found = lending (after stand_in (made w) history) m
 

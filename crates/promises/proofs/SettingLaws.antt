@@ -1,6 +1,6 @@
 -- Laws: a debug register written by three packets, and the registers of P5 so set.
 use Prim.Native.Nat.{ℕ, ◌/◌, ◌%◌, ◌^◌, ◌≤◌, ◌<◌}
-use Rattle.std.specs.Prelude.{◌≡◌, true}
+use Rattle.std.specs.Prelude.{◌≡◌, true, None}
 use Rattle.std.proofs.Math.Path.{refl}
 use Rattle.std.proofs.Common.{ap, ◌∙◌, arith, div-add-mod'}
 use mathlib.Core.List.{List, [], ◌∷◌}
@@ -21,7 +21,6 @@ use Rattle.board.specs.State.{State, state_of}
 use Rattle.registers.specs.Registers.{board_after, debug_loaded, debug_written}
 use Rattle.plan.specs.Plan.{long, no_operands, with_operand, work_after, collected, begun, continued}
 use Rattle.step.specs.Step.{plan_for, stepped}
-use Rattle.board.specs.declared.Fault.TheVariants.{NoFault}
 use Rattle.step.specs.StepFaultLaws.{step_of_none}
 use Rattle.port.specs.Packet.{packet_verdict}
 use Rattle.port.specs.PacketLaws.{no_other}
@@ -43,7 +42,7 @@ unfolding after
 packet_steps b p word calls ranged short = rw (no_other (state_of b p []) word ranged (omega arith) (omega arith))
 
 -- WDMREG of a register on a halted board within its ranges: its word, then the value, upper half first
-module _ (b : Board) (r : DebugRegister) (word : ℕ) (ranged : board_in_range b ≡ true) (halted : b.status.halted ≡ true) (none : b.fault ≡ NoFault)
+module _ (b : Board) (r : DebugRegister) (word : ℕ) (ranged : board_in_range b ≡ true) (halted : b.status.halted ≡ true) (none : b.fault ≡ None)
     (is : decoded word ≡ wdmreg r) (short : word ≤ 0xFFFF) where
   due : ℕ → Operands → Place
   due left taken = place_with fresh_place (Due (wdmreg r) left taken) Off 0 not_ready
@@ -85,7 +84,7 @@ module _ (b : Board) (r : DebugRegister) (word : ℕ) (ranged : board_in_range b
       ∙ ap (λ (x : ℕ). on (standing (board_after (wdmreg r) b 0 x)) words) (div-add-mod' v 65536)
 
 -- GO, of such a board
-go_sent : (b : Board) → board_in_range b ≡ true → b.status.halted ≡ true → b.fault ≡ NoFault → after stand_in (standing b) (sends no_memory (0x0C00 ∷ []))
+go_sent : (b : Board) → board_in_range b ≡ true → b.status.halted ≡ true → b.fault ≡ None → after stand_in (standing b) (sends no_memory (0x0C00 ∷ []))
     ≡ standing (board_after go b 0 0)
 unfolding fresh_place in_range begun collected work_after plan_for stepped packet_verdict decoded decoded_word after
 go_sent b ranged halted none = rw (ranged, halted, none)

@@ -1,8 +1,7 @@
 -- The promises are about the code: what the contracts of make, take_packet, take_event and press_breakpoint say of an answer forces
 -- exactly the step that a history takes.
-use Rattle.std.specs.Prelude.{ℕ, ◌≤◌, ◌≡◌, List, []}
+use Rattle.std.specs.Prelude.{ℕ, ◌≤◌, ◌≡◌, List, [], Err, Ok}
 use Rattle.grounds.specs.declared.Ground.{Ground}
-use Rattle.grounds.specs.declared.Verdict.TheVariants.{Accepted, Refused}
 use Rattle.board.specs.declared.Made.{Made}
 use Rattle.board.specs.Board.{MakingMeets}
 use Rattle.board.specs.State.{State, state_of}
@@ -24,10 +23,10 @@ pub record CodeSteps : Type 0 where
       → state_of r.board r.place out ≡ after_call stand_in s (packet m word)
   -- replies from the state before it and takes its step where it is accepted,
   pub accepted : (s : State) (m : Lent) (word : ℕ) (r : Answer) (out : List ℕ) → PacketMeets (lending s m) word r out
-      → packet_verdict (lending s m) word ≡ Accepted → Stepped (lending s m) word r out
+      → packet_verdict (lending s m) word ≡ Ok tt → Stepped (lending s m) word r out
   -- and gives its number and everything as it was where it is refused.
   pub refused : (s : State) (m : Lent) (word : ℕ) (r : Answer) (out : List ℕ) (g : Ground) → PacketMeets (lending s m) word r out
-      → packet_verdict (lending s m) word ≡ Refused g → Unaltered (lending s m) g r out
+      → packet_verdict (lending s m) word ≡ Err g → Unaltered (lending s m) g r out
   -- An event leaves what a history's event leaves, the place and memory untouched,
   pub events : (s : State) (e : Event) (r : EventAnswer) → EventMeets s.board s.place e r
       → state_of r.board s.place s.memory ≡ after_call stand_in s (event e)
@@ -35,9 +34,9 @@ pub record CodeSteps : Type 0 where
   pub inputs : (s : State) (r : BreakpointAnswer) → BreakpointMeets s.board s.place r
       → state_of r.board s.place s.memory ≡ after_call stand_in s breakpoint
   -- Refused calls change nothing: packets,
-  pub still_packet : (s : State) (m : Lent) (word : ℕ) (g : Ground) → packet_verdict (lending s m) word ≡ Refused g → after_call stand_in s (packet m word)
+  pub still_packet : (s : State) (m : Lent) (word : ℕ) (g : Ground) → packet_verdict (lending s m) word ≡ Err g → after_call stand_in s (packet m word)
       ≡ lending s m
   -- events
-  pub still_event : (s : State) (e : Event) (g : Ground) → event_verdict s.board s.place e ≡ Refused g → after_call stand_in s (event e) ≡ s
+  pub still_event : (s : State) (e : Event) (g : Ground) → event_verdict s.board s.place e ≡ Err g → after_call stand_in s (event e) ≡ s
   -- and breakpoint inputs.
-  pub still_breakpoint : (s : State) (g : Ground) → breakpoint_verdict s.board s.place ≡ Refused g → after_call stand_in s breakpoint ≡ s
+  pub still_breakpoint : (s : State) (g : Ground) → breakpoint_verdict s.board s.place ≡ Err g → after_call stand_in s breakpoint ≡ s

@@ -1,6 +1,5 @@
 -- Demand 3, "no history strands the port": its promises, one record each, of any machine.
-use Rattle.std.specs.Prelude.{ℕ, ◌+◌, ◌≤◌, ◌<◌, ◌≡◌, Bool, true, List, [], ◌∷◌, map, length}
-use Rattle.grounds.specs.declared.Verdict.TheVariants.{Accepted}
+use Rattle.std.specs.Prelude.{ℕ, ◌+◌, ◌≤◌, ◌<◌, ◌≡◌, Bool, true, List, [], ◌∷◌, map, length, Ok}
 use Rattle.command.specs.Reply.{complete}
 use Rattle.board.specs.declared.Board.{Board}
 use Rattle.ranges.specs.Ranges.{in_range}
@@ -91,7 +90,7 @@ pub record NeverStranded (k : Machine) (w : ℕ) (history : List Call) : Type 0 
   -- A command under way holds a register number below 16.
   pub register : register_held (after k (made w) history).place.phase < 16
   -- Every packet within its limits is accepted there.
-  pub accepted : (m : Lent) (word : ℕ) → length m.bytes ≤ 65536 → word ≤ 0x1FFFF → k.verdict (lending (after k (made w) history) m) word ≡ Accepted
+  pub accepted : (m : Lent) (word : ℕ) → length m.bytes ≤ 65536 → word ≤ 0x1FFFF → k.verdict (lending (after k (made w) history) m) word ≡ Ok tt
   -- From there NOPs bring the port to rest, whatever memory within the limit each is lent and whatever comes between.
   pub nops : (ms : List Lent) (idle : List Call) → Idle ms idle → NopsBring k w (after k (made w) history) (trail_of k w history) ms idle
 

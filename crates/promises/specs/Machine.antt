@@ -1,7 +1,7 @@
 -- A stand-in as its callers see it: what the contracts of packet, event and breakpoint input say of a call.
 -- The promises speak of any such machine, so that one that breaks a rule can be shown to break its promise.
-use Rattle.std.specs.Prelude.{ℕ}
-use Rattle.grounds.specs.declared.Verdict.{Verdict}
+use Rattle.std.specs.Prelude.{ℕ, Result, ⊤}
+use Rattle.grounds.specs.declared.Ground.{Ground}
 use Rattle.board.specs.declared.Place.{Place}
 use Rattle.board.specs.State.{State, state_of}
 use Rattle.trigger.specs.declared.Event.{Event}
@@ -11,7 +11,7 @@ use Rattle.bus.specs.Events.{board_after_event, board_after_breakpoint}
 
 pub record Machine : Type 0 where
   -- whether a packet is accepted, of the state, the memory lent with it in it, and of its word
-  pub verdict : State → ℕ → Verdict
+  pub verdict : State → ℕ → Result ⊤ Ground
   -- "Its reply is fixed by the state before it"
   pub reply : Place → ℕ
   -- what an accepted packet leaves

@@ -1,5 +1,5 @@
 -- Laws of the rate: the counts are doubles exactly, so the quotient is the double nearest to the fraction, rounded once.
-use Rattle.std.specs.Prelude.{◌≡◌, refl, Bool, true, false, cond, T, ltb, eqb, pos, Float}
+use Rattle.std.specs.Prelude.{◌≡◌, refl, Bool, true, false, cond, T, ltb, eqb, pos, Float, None, Some}
 use Rattle.std.proofs.Common.{ap, sym, ◌∙◌, mod-lt, mul-suc, mul-one, zero-mul, mul_comm, mul_assoc, mul-pos, add-one, arith, ne_eqb, eqb-true}
 use Prim.Native.Nat.{ℕ, zero, suc, ◌+◌, ◌-◌, ◌*◌, ◌/◌, ◌%◌, ◌^◌, ◌≤◌, ◌<◌, compare}
 use Rattle.std.proofs.Math.Nat.{div-add-mod}
@@ -15,7 +15,6 @@ use Rattle.std.specs.Float.Ieee.Order.{round_mono}
 use Rattle.std.specs.Float.Ieee.Positive.{above, above_of_le}
 use Rattle.std.specs.Float.Ieee.Compare.{differs_from_itself, nan_differs}
 use Rattle.rate.specs.Rate.{quotient, rate_of, rate_bits, hundredths}
-use Rattle.rate.specs.declared.Rate.TheVariants.{NothingStarted, Average}
 
 -- a value that differs from itself is no number, and no other does
 pub differs_is_nan : (x : Float) (b : Bool) → ne x x ≡ b → is_nan x ≡ b
@@ -105,7 +104,7 @@ no_rate_no_bits cycles = refl
 pub no_bits_no_rate : (cycles starts : ℕ) → cycles ≤ 65536 → starts ≤ cycles → rate_bits (rate_of cycles starts) ≡ 0 → starts ≡ 0
 no_bits_no_rate cycles starts h k = by_starts (eqb starts 0) refl
   where
-    by_starts : (b : Bool) → eqb starts 0 ≡ b → rate_bits (cond b NothingStarted (Average (quotient cycles starts))) ≡ 0 → starts ≡ 0
+    by_starts : (b : Bool) → eqb starts 0 ≡ b → rate_bits (cond b None (Some (quotient cycles starts))) ≡ 0 → starts ≡ 0
     by_starts true t e = eqb-true starts 0 t
     by_starts false t e =
         let p : 0 < starts = omega (arith, eqb-false starts 0 t) in

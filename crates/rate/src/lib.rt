@@ -4,21 +4,14 @@
 ghost use Rattle.std.specs.Prelude.{◌≡◌};
 ghost use Rattle.rate.specs.Rate.{rate_of, pattern, rate_bits, hundredths};
 
-// "there is no rate where nothing started"
-#[derive(Clone, Copy)]
-pub enum Rate {
-    NothingStarted,
-    Average(f64),
-}
-
 // Each count is a double exactly; they are divided once.
-pub fn rate_of(cycles: u32, starts: u32) -> Rate
+pub fn rate_of(cycles: u32, starts: u32) -> Option<f64>
     ensures { result ≡ rate_of cycles starts }
 {
     if starts == 0 {
-        return Rate::NothingStarted;
+        return None;
     }
-    Rate::Average(cycles as f64 / starts as f64)
+    Some(cycles as f64 / starts as f64)
 }
 
 // The bits of a double. A NaN, which no rate is, has none of its own: 0 stands for them.
@@ -32,12 +25,12 @@ fn pattern_of(value: f64) -> u64
 }
 
 // The bits of a rate, 0 where there is none.
-pub fn bits_of(rate: Rate) -> u64
+pub fn bits_of(rate: Option<f64>) -> u64
     ensures { result ≡ rate_bits rate }
 {
     match rate {
-        Rate::NothingStarted => 0,
-        Rate::Average(average) => pattern_of(average),
+        None => 0,
+        Some(average) => pattern_of(average),
     }
 }
 

@@ -7,7 +7,7 @@ ghost use Rattle.readings.specs.Reading.{answered, reading_of, ReadingMeets};
 
 use grounds::Ground;
 use memory::Size;
-use requests::{Request, ResultKind};
+use requests::Request;
 
 // What the closing reply brings.
 #[derive(Clone, Copy)]
@@ -29,14 +29,6 @@ pub enum Reader {
     Bad(Ground),
 }
 
-// What reading answers, with the words used.
-#[derive(Clone, Copy)]
-pub enum Reading {
-    Ended(Outcome, usize),
-    NotYet(usize),
-    Refused(Ground),
-}
-
 fn take_result(size: Size, reply: u32) -> Reader
     requires { reply ≤ 0xFFFF }
     ensures { result ≡ result_word size reply }
@@ -53,18 +45,18 @@ fn take_result(size: Size, reply: u32) -> Reader
     }
 }
 
-fn take_data(kind: ResultKind, reply: u32) -> Reader
+fn take_data(kind: Option<Size>, reply: u32) -> Reader
     requires { reply ≤ 0xFFFF }
     ensures { result ≡ data_reply kind reply }
 {
     match kind {
-        ResultKind::NoResult => {
+        None => {
             if reply == command::COMPLETE {
                 return Reader::Closed(Outcome::Complete);
             }
             Reader::Bad(Ground::ImpossibleReply)
         }
-        ResultKind::OfSize(size) => take_result(size, reply),
+        Some(size) => take_result(size, reply),
     }
 }
 
@@ -79,7 +71,7 @@ fn take_status(reply: u32) -> Reader
     }
 }
 
-fn take_first(kind: ResultKind, reply: u32) -> Reader
+fn take_first(kind: Option<Size>, reply: u32) -> Reader
     ensures { result ≡ first_reply kind reply }
 {
     if reply <= 0xFFFF {
@@ -98,7 +90,7 @@ fn take_second(upper: u16, reply: u32) -> Reader
 }
 
 // The reader after one reply more. A reader that is done stays as it is.
-pub fn take_reply(kind: ResultKind, reader: Reader, reply: u32) -> Reader
+pub fn take_reply(kind: Option<Size>, reader: Reader, reply: u32) -> Reader
     ensures { result ≡ after_reply kind reader reply }
 {
     match reader {
@@ -130,18 +122,18 @@ pub fn is_done(reader: Reader) -> bool
     }
 }
 
-fn answer_of(reader: Reader, used: usize) -> Reading
+fn answer_of(reader: Reader, used: usize) -> Result<(Option<Outcome>, usize), Ground>
     ensures { result ≡ answered reader used }
 {
     match reader {
-        Reader::First => Reading::NotYet(used),
-        Reader::Second(_) => Reading::NotYet(used),
-        Reader::Closed(outcome) => Reading::Ended(outcome, used),
-        Reader::Bad(ground) => Reading::Refused(ground),
+        Reader::First => Ok((None, used)),
+        Reader::Second(_) => Ok((None, used)),
+        Reader::Closed(outcome) => Ok((Some(outcome), used)),
+        Reader::Bad(ground) => Err(ground),
     }
 }
 
-fn read_replies(kind: ResultKind, replies: &[u32]) -> Reading
+fn read_replies(kind: Option<Size>, replies: &[u32]) -> Result<(Option<Outcome>, usize), Ground>
     ensures { result ≡ reading_of kind replies.now }
 {
     let mut reader = Reader::First;
@@ -157,11 +149,11 @@ fn read_replies(kind: ResultKind, replies: &[u32]) -> Reading
 }
 
 // The replies start with the one to the packet after the command word.
-pub fn read(request: Request, replies: &[u32]) -> Reading
+pub fn read(request: Request, replies: &[u32]) -> Result<(Option<Outcome>, usize), Ground>
     ensures { ReadingMeets request replies.now result }
 {
     if requests::is_in_range(request) {
         return read_replies(requests::kind_of(request), replies);
     }
-    Reading::Refused(Ground::RequestOutOfRange)
+    Err(Ground::RequestOutOfRange)
 }

@@ -1,5 +1,5 @@
 -- Packets (01): the debug registers, and what each command's work leaves of the board.
-use Rattle.std.specs.Prelude.{ℕ, ◌%◌, ◌^◌, Bool, true, cond, ◌||◌, eqb, get_or}
+use Rattle.std.specs.Prelude.{ℕ, ◌%◌, ◌^◌, Bool, true, cond, ◌||◌, eqb, get_or, Option, Some}
 use Rattle.command.specs.declared.DebugRegister.{DebugRegister}
 use Rattle.command.specs.declared.DebugRegister.TheVariants.{Csr, Baar, Aatr, Tdr, Pbr, Pbmr, Abhr, Ablr, Dbr, Dbmr}
 use Rattle.command.specs.declared.Command.{Command}
@@ -15,8 +15,6 @@ use Rattle.board.specs.declared.Debug.{Debug}
 use Rattle.board.specs.Setters.{with_status, with_debug, with_bstat}
 use Rattle.board.specs.RegisterBits.{ebl_of}
 use Rattle.csr.specs.Csr.{flag, csr_written, csr_value, after_csr_read, after_go, after_sync_pc}
-use Rattle.control.specs.declared.Shown.{Shown}
-use Rattle.control.specs.declared.Shown.TheVariants.{Value}
 use Rattle.control.specs.Control.{control_listed, control_fetched, control_written, general_written}
 
 -- a register is known by its number
@@ -47,10 +45,10 @@ debug_written b r v =
     with_status (with_debug b (debug_loaded (debug_number r) v b.debug)) (cond (is (debug_number r) Tdr) (armed b.status v) b.status)
 
 -- what a command shows: a longword, or nothing where the register is not listed
-abbrev pub shown : Source → Board → ℕ → Shown
-shown (source.General n) b address = Value (get_or b.registers.general (n % 16) 0)
+abbrev pub shown : Source → Board → ℕ → Option ℕ
+shown (source.General n) b address = Some (get_or b.registers.general (n % 16) 0)
 shown source.Control b address = control_fetched b address
-shown source.Csr b address = Value (csr_value b)
+shown source.Csr b address = Some (csr_value b)
 
 -- "Reading clears FOF, TRG, HALT, BKPT, and BSTAT if 2 or 6"; other registers are shown and stay
 abbrev pub after_show : Source → Board → Board

@@ -6,21 +6,20 @@ ghost use Rattle.text.specs.Text.{Puts};
 ghost use Rattle.replies.specs.ReplyText.{packet_text, halted_text, captured_text, halting_text, seen_text};
 ghost use Rattle.replies.specs.ReplyText.{event_text, pressed_text, breakpoint_text, bytes_text, peek_text};
 
-use bus::{BreakpointOutcome, EventOutcome};
-use firing::{Captured, Pressed, Seen};
+use grounds::Ground;
+use firing::{Pressed, Seen};
 use halting::Halting;
-use port::Outcome;
 use refusal_text::put_refusal;
 
-pub fn put_reply(text: &mut [u8], outcome: Outcome) -> usize
+pub fn put_reply(text: &mut [u8], outcome: Result<u32, Ground>) -> usize
     ensures { Puts text.old 0 (packet_text outcome) text.new result }
 {
     match outcome {
-        Outcome::Reply(reply) => {
+        Ok(reply) => {
             let at = text::put_text(text, 0, b"reply ");
             text::put_hex(text, at, reply, 5)
         }
-        Outcome::Refusing(ground) => put_refusal(text, ground),
+        Err(ground) => put_refusal(text, ground),
     }
 }
 
@@ -33,12 +32,12 @@ fn put_halted(text: &mut [u8], at: usize, halted: bool, interrupt: bool) -> usiz
     text::put_flag(text, at, interrupt)
 }
 
-fn put_captured(text: &mut [u8], at: usize, captured: Captured) -> usize
+fn put_captured(text: &mut [u8], at: usize, captured: Option<u32>) -> usize
     ensures { Puts text.old at (captured_text captured) text.new result }
 {
     match captured {
-        Captured::Nothing => text::put_text(text, at, b" pc none"),
-        Captured::Pc(pc) => {
+        None => text::put_text(text, at, b" pc none"),
+        Some(pc) => {
             let at = text::put_text(text, at, b" pc ");
             text::put_hex(text, at, pc, 8)
         }
@@ -67,12 +66,12 @@ fn put_seen(text: &mut [u8], seen: Seen) -> usize
     put_halting(text, at, halting)
 }
 
-pub fn put_event(text: &mut [u8], outcome: EventOutcome) -> usize
+pub fn put_event(text: &mut [u8], outcome: Result<Seen, Ground>) -> usize
     ensures { Puts text.old 0 (event_text outcome) text.new result }
 {
     match outcome {
-        EventOutcome::Refused(ground) => put_refusal(text, ground),
-        EventOutcome::Taken(seen) => put_seen(text, seen),
+        Err(ground) => put_refusal(text, ground),
+        Ok(seen) => put_seen(text, seen),
     }
 }
 
@@ -83,12 +82,12 @@ fn put_pressed(text: &mut [u8], pressed: Pressed) -> usize
     put_halted(text, at, pressed.halted, pressed.interrupt)
 }
 
-pub fn put_breakpoint(text: &mut [u8], outcome: BreakpointOutcome) -> usize
+pub fn put_breakpoint(text: &mut [u8], outcome: Result<Pressed, Ground>) -> usize
     ensures { Puts text.old 0 (breakpoint_text outcome) text.new result }
 {
     match outcome {
-        BreakpointOutcome::Refused(ground) => put_refusal(text, ground),
-        BreakpointOutcome::Taken(pressed) => put_pressed(text, pressed),
+        Err(ground) => put_refusal(text, ground),
+        Ok(pressed) => put_pressed(text, pressed),
     }
 }
 

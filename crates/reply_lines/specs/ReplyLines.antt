@@ -1,9 +1,7 @@
 -- The desk's language, `gateway`: the answers that it reads, and the words behind the program's name.
-use Rattle.std.specs.Prelude.{ℕ, List, [], ◌∷◌}
+use Rattle.std.specs.Prelude.{ℕ, List, [], ◌∷◌, None, Option, Some}
 use Rattle.words.specs.declared.LineKind.{LineKind}
 use Rattle.words.specs.declared.LineKind.TheVariants.{Silent, Clear, TooLong}
-use Rattle.numbers.specs.declared.Numeral.{Numeral}
-use Rattle.numbers.specs.declared.Numeral.TheVariants.{Value, NoNumber}
 use Rattle.numbers.specs.declared.Numbers.{Numbers}
 use Rattle.numbers.specs.declared.Numbers.TheVariants.{Zero, One, Two, Three, Four, NotNumbers}
 use Rattle.words.specs.LineWords.{ascii, kind_of, words}
@@ -11,8 +9,6 @@ use Rattle.words.specs.NameTable.{row, found}
 use Rattle.numbers.specs.Numbers.{numbers}
 use Rattle.reply_lines.specs.declared.ReplyLine.{ReplyLine}
 use Rattle.reply_lines.specs.declared.ReplyLine.TheVariants.{Nothing, Reply, NoReply}
-use Rattle.reply_lines.specs.declared.TableAsked.{TableAsked}
-use Rattle.reply_lines.specs.declared.TableAsked.TheVariants.{Table, Unclear}
 
 -- `reply X`
 unfoldable pub reply_of_one : List ℕ → ℕ → ReplyLine
@@ -40,7 +36,7 @@ unfoldable pub reply_line : List ℕ → ReplyLine
 reply_line line = reply_at (kind_of line) line
 
 -- "Arguments: none, or ADDRESS LONGWORDS (hexadecimal ..)"
-abbrev pub table_of : Numeral → Numeral → TableAsked
-table_of (Value address) (Value longwords) = Table address longwords
-table_of (Value address) NoNumber = Unclear
-table_of NoNumber longwords = Unclear
+abbrev pub table_of : Option ℕ → Option ℕ → Option (ℕ × ℕ)
+table_of (Some address) (Some longwords) = Some (address, longwords)
+table_of (Some address) None = None
+table_of None longwords = None

@@ -6,7 +6,7 @@ ghost use Rattle.words.specs.LineWords.{words};
 ghost use Rattle.numbers.specs.Numbers.{numeral};
 ghost use Rattle.reply_lines.specs.ReplyLines.{reply_form, reply_line, reply_of_one, reply_words, table_of};
 
-use numbers::{Numbers, Numeral};
+use numbers::Numbers;
 use words::LineKind;
 
 #[derive(Clone, Copy)]
@@ -15,13 +15,6 @@ pub enum ReplyLine {
     Nothing,
     Reply(u32),
     NoReply,
-}
-
-// What the words behind the program's name ask.
-#[derive(Clone, Copy)]
-pub enum TableAsked {
-    Table(u32, u32),
-    Unclear,
 }
 
 fn reply_of_one(name: &[u8], n: u32) -> ReplyLine
@@ -68,19 +61,19 @@ pub fn read_line(line: &[u8]) -> ReplyLine
     }
 }
 
-fn table_of(address: Numeral, longwords: Numeral) -> TableAsked
+fn table_of(address: Option<u32>, longwords: Option<u32>) -> Option<(u32, u32)>
     ensures { result ≡ table_of address longwords }
 {
-    let Numeral::Value(from) = address else {
-        return TableAsked::Unclear;
+    let Some(from) = address else {
+        return None;
     };
-    let Numeral::Value(count) = longwords else {
-        return TableAsked::Unclear;
+    let Some(count) = longwords else {
+        return None;
     };
-    TableAsked::Table(from, count)
+    Some((from, count))
 }
 
-pub fn read_table(address: &[u8], longwords: &[u8]) -> TableAsked
+pub fn read_table(address: &[u8], longwords: &[u8]) -> Option<(u32, u32)>
     ensures { result ≡ table_of (numeral address.now) (numeral longwords.now) }
 {
     table_of(

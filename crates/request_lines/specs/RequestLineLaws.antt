@@ -1,9 +1,8 @@
 -- Laws of sizes behind a name: the name first, and then the size.
-use Rattle.std.specs.Prelude.{ℕ, ◌<◌, ◌≡◌, refl, Bool, true, false, ◌&&◌, List, [], ◌∷◌, ◌++◌, eqb, length, take, drop}
+use Rattle.std.specs.Prelude.{ℕ, ◌<◌, ◌≡◌, refl, Bool, true, false, ◌&&◌, List, [], ◌∷◌, ◌++◌, eqb, length, take, drop, None}
 use Rattle.std.proofs.Common.{arith, take_all}
 use Rattle.words.specs.LineWords.{ascii, lower, same}
 use Rattle.words.specs.LineWordLaws.{same_length}
-use Rattle.request_lines.specs.declared.Sized.TheVariants.{NoSize}
 use Rattle.request_lines.specs.RequestLines.{size_behind}
 
 same_parts : (name stem tail : List ℕ) → same name (stem ++ tail) ≡ same (take (length stem) name) stem && same (drop (length stem) name) tail
@@ -16,11 +15,11 @@ same_parts (a ∷ name) (b ∷ stem) tail = by_test (same_parts name stem tail) 
     by_test h true = h
     by_test h false = refl
 
-pub no_size_of_another : (name stem : List ℕ) → same (take (length stem) name) stem ≡ false → size_behind name stem ≡ NoSize
+pub no_size_of_another : (name stem : List ℕ) → same (take (length stem) name) stem ≡ false → size_behind name stem ≡ None
 unfolding size_behind
 no_size_of_another name stem e = rw (same_parts name stem (ascii ".b"), same_parts name stem (ascii ".w"), same_parts name stem (ascii ".l"), e)
 
-pub no_size_of_a_shorter : (name stem : List ℕ) → length name < length stem → size_behind name stem ≡ NoSize
+pub no_size_of_a_shorter : (name stem : List ℕ) → length name < length stem → size_behind name stem ≡ None
 no_size_of_a_shorter name stem h =
     let all = take_all (length stem) name (omega arith) in
     let longer : length name ≡ length stem → ⊥ = λ e. omega (arith, h, e) in

@@ -1,9 +1,8 @@
 -- The text of what requests come to (the desk's language, `pod` and `talk`): the words to send, what was read, what an exchange came to.
-use Rattle.std.specs.Prelude.{ℕ, List, [], ◌∷◌, ◌++◌}
+use Rattle.std.specs.Prelude.{ℕ, List, [], ◌∷◌, ◌++◌, Err, None, Ok, Option, Result, Some}
+use Rattle.grounds.specs.declared.Ground.{Ground}
 use Rattle.readings.specs.declared.Outcome.{Outcome}
 use Rattle.readings.specs.declared.Outcome.TheVariants.{Value, Complete, BusError, Illegal}
-use Rattle.readings.specs.declared.Reading.{Reading}
-use Rattle.readings.specs.declared.Reading.TheVariants.{Ended, NotYet, Refused}
 use Rattle.text.specs.Text.{ascii}
 use Rattle.text.specs.NumberText.{hex_text, decimal_text}
 use Rattle.refusal_text.specs.RefusalText.{refused_text}
@@ -28,10 +27,10 @@ abbrev pub used_text : ℕ → List ℕ
 used_text used = ascii " used " ++ decimal_text used
 
 -- "`value V used N`, `complete used N`, `bus-error used N`, `illegal used N`, `not-yet used N` (.., N decimal); or `refused N at 0`"
-abbrev pub reading_text : Reading → List ℕ
-reading_text (Ended outcome used) = outcome_text outcome ++ used_text used
-reading_text (NotYet used) = ascii "not-yet" ++ used_text used
-reading_text (Refused why) = refused_text why
+abbrev pub reading_text : Result (Option Outcome × ℕ) Ground → List ℕ
+reading_text (Ok (Some outcome, used)) = outcome_text outcome ++ used_text used
+reading_text (Ok (None, used)) = ascii "not-yet" ++ used_text used
+reading_text (Err why) = refused_text why
 
 -- "`value V packets N`, `complete packets N`, ..; N decimal"
 abbrev pub exchange_text : Outcome → ℕ → List ℕ

@@ -4,7 +4,8 @@
 ghost use Rattle.text.specs.Text.{Puts};
 ghost use Rattle.request_text.specs.RequestText.{outcome_text, words_text, used_text, reading_text, exchange_text};
 
-use readings::{Outcome, Reading};
+use grounds::Ground;
+use readings::Outcome;
 use refusal_text::put_refusal;
 use text::{put_byte, put_decimal, put_hex, put_text};
 
@@ -44,19 +45,19 @@ fn put_used(text: &mut [u8], at: usize, used: usize) -> usize
 }
 
 // `.. used N`
-pub fn put_reading(text: &mut [u8], reading: Reading) -> usize
+pub fn put_reading(text: &mut [u8], reading: Result<(Option<Outcome>, usize), Ground>) -> usize
     ensures { Puts text.old 0 (reading_text reading) text.new result }
 {
     match reading {
-        Reading::Ended(outcome, used) => {
+        Ok((Some(outcome), used)) => {
             let at = put_outcome(text, outcome);
             put_used(text, at, used)
         }
-        Reading::NotYet(used) => {
+        Ok((None, used)) => {
             let at = put_text(text, 0, b"not-yet");
             put_used(text, at, used)
         }
-        Reading::Refused(ground) => put_refusal(text, ground),
+        Err(ground) => put_refusal(text, ground),
     }
 }
 

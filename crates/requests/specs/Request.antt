@@ -1,12 +1,10 @@
 -- The pod's half (01, by eye): the ranges of a request's fields, and the result it asks for.
-use Rattle.std.specs.Prelude.{ℕ, Bool, true, ◌&&◌, leb}
+use Rattle.std.specs.Prelude.{ℕ, Bool, true, ◌&&◌, leb, None, Option, Some}
 use Rattle.memory.specs.declared.Size.{Size}
 use Rattle.memory.specs.declared.Size.TheVariants.{Byte, Word, Long}
 use Rattle.command.specs.Command.{size_words}
 use Rattle.requests.specs.declared.Request.{Request}
 use Rattle.requests.specs.declared.Request.TheVariants.{Rdreg, Wdreg, Read, Write, Dump, Fill, Go, Nop, SyncPc, Rcreg, Wcreg, Rdmreg, Wdmreg}
-use Rattle.requests.specs.declared.ResultKind.{ResultKind}
-use Rattle.requests.specs.declared.ResultKind.TheVariants.{NoResult, OfSize}
 
 -- ".. and data within its size"
 abbrev pub data_in_range : Size → ℕ → Bool
@@ -31,22 +29,22 @@ in_range (Rdmreg n) = leb n 31
 in_range (Wdmreg n value) = data_in_range Long value && leb n 31
 
 -- the column "Result words": "complete", 1, or 2 for a longword
-abbrev pub kind_of : Request → ResultKind
-kind_of (Rdreg register) = OfSize Long
-kind_of (Wdreg register value) = NoResult
-kind_of (Read size address) = OfSize size
-kind_of (Write size address value) = NoResult
-kind_of (Dump size) = OfSize size
-kind_of (Fill size value) = NoResult
-kind_of Go = NoResult
-kind_of Nop = NoResult
-kind_of SyncPc = NoResult
-kind_of (Rcreg rc) = OfSize Long
-kind_of (Wcreg rc value) = NoResult
-kind_of (Rdmreg n) = OfSize Long
-kind_of (Wdmreg n value) = NoResult
+abbrev pub kind_of : Request → Option Size
+kind_of (Rdreg register) = Some Long
+kind_of (Wdreg register value) = None
+kind_of (Read size address) = Some size
+kind_of (Write size address value) = None
+kind_of (Dump size) = Some size
+kind_of (Fill size value) = None
+kind_of Go = None
+kind_of Nop = None
+kind_of SyncPc = None
+kind_of (Rcreg rc) = Some Long
+kind_of (Wcreg rc value) = None
+kind_of (Rdmreg n) = Some Long
+kind_of (Wdmreg n value) = None
 
 -- .. and how many words that is; none with "complete"
-abbrev pub kind_words : ResultKind → ℕ
-kind_words NoResult = 0
-kind_words (OfSize size) = size_words size
+abbrev pub kind_words : Option Size → ℕ
+kind_words None = 0
+kind_words (Some size) = size_words size

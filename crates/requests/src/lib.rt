@@ -24,13 +24,6 @@ pub enum Request {
     Wdmreg(u32, u32),
 }
 
-// The result that a request asks for.
-#[derive(Clone, Copy)]
-pub enum ResultKind {
-    NoResult,
-    OfSize(Size),
-}
-
 fn is_data(size: Size, value: u32) -> bool
     ensures { result ≡ data_in_range size value }
 {
@@ -61,22 +54,22 @@ pub fn is_in_range(request: Request) -> bool
     }
 }
 
-pub fn kind_of(request: Request) -> ResultKind
+pub fn kind_of(request: Request) -> Option<Size>
     ensures { result ≡ kind_of request }
 {
     match request {
-        Request::Rdreg(_) => ResultKind::OfSize(Size::Long),
-        Request::Wdreg(_, _) => ResultKind::NoResult,
-        Request::Read(size, _) => ResultKind::OfSize(size),
-        Request::Write(_, _, _) => ResultKind::NoResult,
-        Request::Dump(size) => ResultKind::OfSize(size),
-        Request::Fill(_, _) => ResultKind::NoResult,
-        Request::Go => ResultKind::NoResult,
-        Request::Nop => ResultKind::NoResult,
-        Request::SyncPc => ResultKind::NoResult,
-        Request::Rcreg(_) => ResultKind::OfSize(Size::Long),
-        Request::Wcreg(_, _) => ResultKind::NoResult,
-        Request::Rdmreg(_) => ResultKind::OfSize(Size::Long),
-        Request::Wdmreg(_, _) => ResultKind::NoResult,
+        Request::Rdreg(_) => Some(Size::Long),
+        Request::Wdreg(_, _) => None,
+        Request::Read(size, _) => Some(size),
+        Request::Write(_, _, _) => None,
+        Request::Dump(size) => Some(size),
+        Request::Fill(_, _) => None,
+        Request::Go => None,
+        Request::Nop => None,
+        Request::SyncPc => None,
+        Request::Rcreg(_) => Some(Size::Long),
+        Request::Wcreg(_, _) => None,
+        Request::Rdmreg(_) => Some(Size::Long),
+        Request::Wdmreg(_, _) => None,
     }
 }

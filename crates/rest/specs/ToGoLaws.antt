@@ -1,12 +1,8 @@
 -- Coming to rest: how many packets a phase has to go, at most 4 + W, and what a plan leaves of them.
-use Rattle.std.specs.Prelude.{ℕ, ◌+◌, ◌-◌, ◌≤◌, ◌≡◌, refl, Bool, true, false, cond, List, eqb}
+use Rattle.std.specs.Prelude.{ℕ, ◌+◌, ◌-◌, ◌≤◌, ◌≡◌, refl, Bool, true, false, cond, List, eqb, Err, None, Ok, Option, Result, Some, ⊤}
 use Rattle.std.proofs.Common.{zero-le, le_refl, arith}
 use Rattle.memory.specs.declared.Size.{Size}
 use Rattle.memory.specs.declared.Size.TheVariants.{Byte, Word, Long}
-use Rattle.memory.specs.declared.Fetch.{Fetch}
-use Rattle.memory.specs.declared.Fetch.TheVariants as fetch
-use Rattle.memory.specs.declared.Reach.{Reach}
-use Rattle.memory.specs.declared.Reach.TheVariants.{Whole, Short}
 use Rattle.memory.specs.Memory.{fetched, reach}
 use Rattle.command.specs.declared.Command.{Command}
 use Rattle.command.specs.declared.Command.TheVariants.{Unknown, Nop, Load, Store, Show, Change}
@@ -19,8 +15,6 @@ use Rattle.board.specs.declared.Operands.{Operands}
 use Rattle.board.specs.declared.Phase.{Phase}
 use Rattle.board.specs.declared.Phase.TheVariants.{Rest, Due, Waiting, Upper}
 use Rattle.board.specs.Board.{at_rest}
-use Rattle.control.specs.declared.Shown.{Shown}
-use Rattle.control.specs.declared.Shown.TheVariants.{Value, BusError}
 use Rattle.registers.specs.Registers.{shown, reached}
 use Rattle.access.specs.Access.{past, fetched_access, stored_access, start_of, access_of}
 use Rattle.work.specs.Work.{access_ending, shown_ending, change_ending, ending_of, phase_after}
@@ -65,19 +59,19 @@ some_to_go w (Waiting c left address value) h = omega (arith, h.0)
 some_to_go w (Upper low) h = omega arith
 
 -- what the work leaves to go: the upper result word, where there are two
-accessed : (w : ℕ) (s : Size) (f : Fetch) (past : ℕ) → to_go w (phase_after (access_ending (fetched_access s past f))) ≤ size_words s - 1
-accessed w Byte (fetch.Value v) past = zero-le
-accessed w Word (fetch.Value v) past = zero-le
-accessed w Long (fetch.Value v) past = le_refl _
-accessed w s (fetch.Missing first) past = zero-le
+accessed : (w : ℕ) (s : Size) (f : Result ℕ ℕ) (past : ℕ) → to_go w (phase_after (access_ending (fetched_access s past f))) ≤ size_words s - 1
+accessed w Byte (Ok v) past = zero-le
+accessed w Word (Ok v) past = zero-le
+accessed w Long (Ok v) past = le_refl _
+accessed w s (Err first) past = zero-le
 
-stores : (w : ℕ) (r : Reach) (past : ℕ) → to_go w (phase_after (access_ending (stored_access past r))) ≤ 0
-stores w Whole past = zero-le
-stores w (Short first) past = zero-le
+stores : (w : ℕ) (r : Result ⊤ ℕ) (past : ℕ) → to_go w (phase_after (access_ending (stored_access past r))) ≤ 0
+stores w (Ok _) past = zero-le
+stores w (Err first) past = zero-le
 
-shows : (w : ℕ) (f : Shown) → to_go w (phase_after (shown_ending f)) ≤ 1
-shows w (Value v) = le_refl _
-shows w BusError = zero-le
+shows : (w : ℕ) (f : Option ℕ) → to_go w (phase_after (shown_ending f)) ≤ 1
+shows w (Some v) = le_refl _
+shows w None = zero-le
 
 changes : (w : ℕ) (t : Bool) → to_go w (phase_after (change_ending t)) ≤ 0
 changes w true = zero-le

@@ -1,5 +1,6 @@
 -- The round trip of an illegal word: a pod that sends all the words it built, and NOPs after them, reads illegal, and what that leaves.
-use Rattle.std.specs.Prelude.{ℕ, ◌+◌, ◌≤◌, ◌≡◌, refl, true, false, List, [], ◌∷◌, ◌++◌, length}
+use Rattle.std.specs.Prelude.{ℕ, ◌+◌, ◌≤◌, ◌≡◌, refl, true, false, List, [], ◌∷◌, ◌++◌, length, Option, Ok, Some}
+use Rattle.memory.specs.declared.Size.{Size}
 use Rattle.std.proofs.Common.{arith, ◌∙◌}
 use Rattle.command.specs.Reply.{illegal}
 use Rattle.board.specs.Board.{at_rest}
@@ -10,12 +11,10 @@ use Rattle.sound.specs.Sound.{Sound}
 use Rattle.sound.specs.SoundLaws.{packet_keeps_w}
 use Rattle.rest.specs.ToGoLaws.{to_go_at_most}
 use Rattle.requests.specs.declared.Request.{Request}
-use Rattle.requests.specs.declared.ResultKind.{ResultKind}
 use Rattle.requests.specs.Request.{in_range, kind_of}
 use Rattle.building.specs.RequestWords.{command_word, operands, built_words}
 use Rattle.readings.specs.declared.Outcome.TheVariants.{Illegal}
 use Rattle.readings.specs.declared.Reader.TheVariants.{Closed}
-use Rattle.readings.specs.declared.Reading.TheVariants.{Ended}
 use Rattle.readings.specs.Reading.{reading_of}
 use Rattle.readings.specs.ReaderLaws.{done_stays, done_uses_none}
 use Rattle.round_trip.specs.Meaning.{Scene}
@@ -26,7 +25,7 @@ use Rattle.round_trip.proofs.TalkLaws.{words_length}
 use Rattle.round_trip.proofs.NextRequestLaws.{ran_append, run_keeps_sound}
 
 -- a place at rest that holds 0x1FFFF: whatever is sent, the first reply closes
-illegal_read : (kind : ResultKind) (words : List ℕ) (s : Scene) → 1 ≤ length words → reading_of kind (replies words (resting s illegal)) ≡ Ended Illegal 1
+illegal_read : (kind : Option Size) (words : List ℕ) (s : Scene) → 1 ≤ length words → reading_of kind (replies words (resting s illegal)) ≡ Ok (Some Illegal, 1)
 unfolding replies reply_now
 illegal_read kind [] s some = absurd (omega arith)
 illegal_read kind (word ∷ words) s some =

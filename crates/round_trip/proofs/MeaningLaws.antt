@@ -1,5 +1,5 @@
 -- Laws of meaning: the port's work on a request's operand words is what the request means.
-use Rattle.std.specs.Prelude.{ℕ, ◌*◌, ◌+◌, ◌%◌, ◌≡◌, refl, true, false, not, ◌||◌}
+use Rattle.std.specs.Prelude.{ℕ, ◌*◌, ◌+◌, ◌%◌, ◌≡◌, refl, true, false, not, ◌||◌, Some}
 use Rattle.std.proofs.Common.{arith, div-add-mod', leb-true, ne_eqb}
 use Rattle.memory.specs.declared.Size.TheVariants.{Byte, Word, Long}
 use Rattle.command.specs.declared.Command.{Command}
@@ -12,7 +12,6 @@ use Rattle.legality.specs.Legality.{legal_command}
 use Rattle.plan.specs.Plan.{carries_c, no_operands, address_in, value_in}
 use Rattle.requests.specs.declared.Request.{Request}
 use Rattle.requests.specs.declared.Request.TheVariants.{Rdreg, Wdreg, Read, Write, Dump, Fill, Go, Nop, SyncPc, Rcreg, Wcreg, Rdmreg, Wdmreg}
-use Rattle.requests.specs.declared.ResultKind.TheVariants.{OfSize}
 use Rattle.requests.specs.Request.{data_in_range, in_range, kind_of}
 use Rattle.building.specs.RequestWords.{size_code, command_word, operands}
 use Rattle.laws.specs.TestLaws.{both_hold}
@@ -103,7 +102,7 @@ begun_is_meant (Rcreg rc) s h known = rw (div-add-mod' rc 65536) (read_control_m
 begun_is_meant (Wcreg rc v) s h known = rw (div-add-mod' rc 65536, div-add-mod' v 65536) (write_control_meant s rc v)
 begun_is_meant (Rdmreg n) s h known =
     found_rdmreg
-    (λ c. Meant c (address_in (operand_words c) no_operands) (value_in (operand_words c) no_operands) (OfSize Long) (word_cleared s) (meaning (Rdmreg n) s)) n
+    (λ c. Meant c (address_in (operand_words c) no_operands) (value_in (operand_words c) no_operands) (Some Long) (word_cleared s) (meaning (Rdmreg n) s)) n
     (record { outcome = refl; leaves = refl; fits = λ f. csr_fits (cleared s.board) })
     known
 begun_is_meant (Wdmreg n v) s h known = rw (← operand_count (Wdmreg n v) known, div-add-mod' v 65536) (debug_meant n v v s known)

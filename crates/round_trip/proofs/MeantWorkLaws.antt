@@ -1,5 +1,5 @@
 -- Laws of the work: what the port's work on a request's words comes to is what the request means, and its ending fits the result asked for.
-use Rattle.std.specs.Prelude.{ℕ, ◌^◌, ◌≤◌, ◌<◌, ◌≡◌, refl, Bool, true, false}
+use Rattle.std.specs.Prelude.{ℕ, ◌^◌, ◌≤◌, ◌<◌, ◌≡◌, refl, Bool, true, false, None, Option, Some}
 use Rattle.std.proofs.Common.{arith, ap₂}
 use Rattle.std.proofs.lemmas.Nat.{and_le_r}
 use Rattle.memory.specs.declared.Size.{Size}
@@ -13,7 +13,6 @@ use Rattle.command.specs.declared.Base.{Base}
 use Rattle.command.specs.Command as command
 use Rattle.command.specs.Command.{looked_up, debug_number}
 use Rattle.board.specs.declared.Board.{Board}
-use Rattle.board.specs.declared.Fault.TheVariants.{NoFault}
 use Rattle.board.specs.Setters.{with_fault}
 use Rattle.board.specs.declared.Chain.{Chain}
 use Rattle.access.specs.declared.Access.TheVariants.{Fetched}
@@ -27,8 +26,6 @@ use Rattle.csr.specs.Csr.{flag, csr_value}
 use Rattle.control.specs.Control.{control_index, control_listed, control_fetched, control_written}
 use Rattle.registers.specs.Registers.{debug_written, board_after}
 use Rattle.requests.specs.declared.Request.TheVariants.{Wdmreg}
-use Rattle.requests.specs.declared.ResultKind.{ResultKind}
-use Rattle.requests.specs.declared.ResultKind.TheVariants.{NoResult, OfSize}
 use Rattle.readings.specs.declared.Outcome.TheVariants.{Value}
 use Rattle.pod_laws.specs.MeantCommand.{debug_rows}
 use Rattle.pod_laws.specs.RequestCountLaws.{found_debug}
@@ -64,7 +61,7 @@ pub record Sized (s : Scene) : Type 0 where
 pub sound_is_sized : {s : State} → Sound s → Sized (scene_of s)
 sound_is_sized f = record { bytes = f.memory.bytes; general = f.board.general; control = f.board.control }
 
-pub record Meant (c : Command) (address value : ℕ) (kind : ResultKind) (s : Scene) (m : Meaning) : Type 0 where
+pub record Meant (c : Command) (address value : ℕ) (kind : Option Size) (s : Scene) (m : Meaning) : Type 0 where
   -- the ending is the outcome meant
   pub outcome : outcome_of (work_ending c address s) ≡ m.outcome
   -- all that is left is as meant
@@ -83,18 +80,18 @@ fetched_chain Byte v p c chain = refl
 fetched_chain Word v p c chain = refl
 fetched_chain Long v p c chain = refl
 
-fetched_fault : (size : Size) (v p : ℕ) → fault_after (access_ending (Fetched size v p)) (Fetched size v p) NoFault ≡ NoFault
+fetched_fault : (size : Size) (v p : ℕ) → fault_after (access_ending (Fetched size v p)) (Fetched size v p) None ≡ None
 fetched_fault Byte v p = refl
 fetched_fault Word v p = refl
 fetched_fault Long v p = refl
 
-fetched_fits : (size : Size) (v p : ℕ) → v < limit size → Fits (OfSize size) (access_ending (Fetched size v p))
+fetched_fits : (size : Size) (v p : ℕ) → v < limit size → Fits (Some size) (access_ending (Fetched size v p))
 fetched_fits Byte v p h = omega arith
 fetched_fits Word v p h = omega arith
 fetched_fits Long v p h = omega arith
 
 module _ (size : Size) (s : Scene) where
-  pub load_meant : (base : Base) (a v : ℕ) → Meant (Load size base) a v (OfSize size) (word_cleared s) (reads size (start_of base s.pointer a) s)
+  pub load_meant : (base : Base) (a v : ℕ) → Meant (Load size base) a v (Some size) (word_cleared s) (reads size (start_of base s.pointer a) s)
   unfolding fetched
   load_meant base a v =
       let at = start_of base s.pointer a in
@@ -111,7 +108,7 @@ module _ (size : Size) (s : Scene) where
       })
       (λ h. record { outcome = rw h; leaves = rw h; fits = λ f. rw h tt })
 
-  pub store_meant : (base : Base) (a v : ℕ) → Meant (Store size base) a v NoResult (word_cleared s) (writes size (start_of base s.pointer a) v s)
+  pub store_meant : (base : Base) (a v : ℕ) → Meant (Store size base) a v None (word_cleared s) (writes size (start_of base s.pointer a) v s)
   unfolding stored reach
   store_meant base a v =
       by_test (present s.memory size (start_of base s.pointer a))
@@ -120,14 +117,14 @@ module _ (size : Size) (s : Scene) where
 
 -- ---- control registers
 module _ (s : Scene) where
-  pub read_control_meant : (rc v : ℕ) → Meant command.rcreg rc v (OfSize Long) (word_cleared s) (reads_control rc s)
+  pub read_control_meant : (rc v : ℕ) → Meant command.rcreg rc v (Some Long) (word_cleared s) (reads_control rc s)
   unfolding control_fetched
   read_control_meant rc v =
       by_test (control_listed rc)
       (λ h. record { outcome = rw h; leaves = rw h; fits = λ f. rw h (omega (arith, f.control (control_index rc))) })
       (λ h. record { outcome = rw h; leaves = rw h; fits = λ f. rw h tt })
 
-  pub write_control_meant : (rc v : ℕ) → Meant command.wcreg rc v NoResult (word_cleared s) (writes_control rc v s)
+  pub write_control_meant : (rc v : ℕ) → Meant command.wcreg rc v None (word_cleared s) (writes_control rc v s)
   unfolding control_fetched control_written
   write_control_meant rc v =
       by_test (control_listed rc)
@@ -146,10 +143,10 @@ csr_fits b =
     omega (arith, flag_within t.fof, flag_within t.trg, flag_within t.halt, flag_within t.bkpt, and_le_r b.debug.csr 0x0007FF70)
 
 pub debug_meant : (n v a : ℕ) (s : Scene) → (looked_up n debug_rows ≡ Unknown → ⊥)
-    → Meant (looked_up n debug_rows) a v NoResult (word_cleared s) (meaning (Wdmreg n v) s)
+    → Meant (looked_up n debug_rows) a v None (word_cleared s) (meaning (Wdmreg n v) s)
 unfolding debug_written
 debug_meant n v a s known =
-    found_debug (λ k c. Meant c a v NoResult (word_cleared s) (meaning (Wdmreg k v) s)) n written known
+    found_debug (λ k c. Meant c a v None (word_cleared s) (meaning (Wdmreg k v) s)) n written known
   where
-    written : (r : DebugRegister) → Meant (command.wdmreg r) a v NoResult (word_cleared s) (meaning (Wdmreg (debug_number r) v) s)
+    written : (r : DebugRegister) → Meant (command.wdmreg r) a v None (word_cleared s) (meaning (Wdmreg (debug_number r) v) s)
     written r = record { outcome = refl; leaves = refl; fits = λ f. tt }

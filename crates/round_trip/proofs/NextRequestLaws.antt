@@ -1,5 +1,5 @@
 -- What follows from the round trip: more NOPs change nothing, and what is left is sound for the next request.
-use Rattle.std.specs.Prelude.{ℕ, zero, suc, ◌-◌, ◌≡◌, refl, true, List, [], ◌∷◌, ◌++◌, length}
+use Rattle.std.specs.Prelude.{ℕ, zero, suc, ◌-◌, ◌≡◌, refl, true, List, [], ◌∷◌, ◌++◌, length, Ok, Some}
 use Rattle.std.proofs.Common.{ap, ◌∙◌, subst}
 use Rattle.command.specs.Reply.{complete}
 use Rattle.board.specs.State.{State}
@@ -8,7 +8,6 @@ use Rattle.run.specs.Run.{ran, replies}
 use Rattle.sound.specs.Sound.{Sound}
 use Rattle.sound.specs.SoundLaws.{packet_keeps_sound}
 use Rattle.requests.specs.declared.Request.{Request}
-use Rattle.readings.specs.declared.Reading.TheVariants.{Ended}
 use Rattle.readings.specs.declared.Reader.TheVariants.{First}
 use Rattle.requests.specs.Request.{in_range, kind_of}
 use Rattle.building.specs.RequestWords.{command_word, operands}
@@ -39,7 +38,7 @@ nops_at_rest (suc n) s = ap (ran (nops n)) (nop_at_rest s complete) ∙ nops_at_
 
 pub record Beyond (request : Request) (words : List ℕ) (s : State) (n : ℕ) (m : Meaning) : Type 0 where
   -- the answer and the words used are those of the round trip
-  pub answer : reading request (later_replies (words ++ nops n) s) ≡ Ended m.outcome (length words - 1)
+  pub answer : reading request (later_replies (words ++ nops n) s) ≡ Ok (Some m.outcome, length words - 1)
   -- and so is all that is left
   pub state : ran (words ++ nops n) s ≡ resting m.leaves complete
 
@@ -53,7 +52,7 @@ further_nops request s next n h l z =
     let start = stepped (resting s next) (command_word request) in
     let trip = round_trip request s next h l z in
     let closed : done (after_replies k First (replies later start)) ≡ true = rw (legal_closes request s next h l z).answer in
-    let read : reading_of k (replies later start) ≡ Ended (meaning request s).outcome (suc (length later) - 1) = rw h at trip.answer in
+    let read : reading_of k (replies later start) ≡ Ok (Some (meaning request s).outcome, suc (length later) - 1) = rw h at trip.answer in
     record {
       answer = rw (h, replies_append later (nops n) start) (further_replies k (replies later start) (replies (nops n) (ran later start)) closed ∙ read);
       state =

@@ -1,5 +1,6 @@
 -- Laws of the exchange: it ends, within the budget, in what the request means.
-use Rattle.std.specs.Prelude.{ℕ, zero, suc, ◌+◌, ◌≤◌, ◌≡◌, refl, true, false, List, [], ◌∷◌, ◌++◌, get_or}
+use Rattle.std.specs.Prelude.{ℕ, zero, suc, ◌+◌, ◌≤◌, ◌≡◌, refl, true, false, List, [], ◌∷◌, ◌++◌, get_or, None, Option, Some}
+use Rattle.memory.specs.declared.Size.{Size}
 use native.Mathlib.Omega.{arith}
 use Rattle.std.proofs.Common.{add-zero, sym, ap, ◌∙◌, subst, length-append}
 use Rattle.std.proofs.Math.ListN.{length}
@@ -11,8 +12,6 @@ use Rattle.run.specs.Run.{ran, replies}
 use Rattle.sound.specs.Sound.{Sound}
 use Rattle.rest.specs.ToGoLaws.{waits_at_most}
 use Rattle.requests.specs.declared.Request.{Request}
-use Rattle.requests.specs.declared.ResultKind.{ResultKind}
-use Rattle.requests.specs.declared.ResultKind.TheVariants.{NoResult, OfSize}
 use Rattle.readings.specs.declared.Outcome.{Outcome}
 use Rattle.readings.specs.declared.Outcome.TheVariants.{Value, Complete, BusError, Illegal}
 use Rattle.readings.specs.declared.Reader.{Reader}
@@ -76,9 +75,9 @@ sent_to_the_end (suc k) request (word ∷ words) i reader s outcome final along 
     (record { answer = c.answer; all = omega (arith, rw t at c.all); state = c.state })))
 
 -- ---- the budget is enough
-closing_bound : (kind : ResultKind) (outcome : Outcome) → closing_replies kind outcome ≤ 2
-closing_bound NoResult (Value v) = omega arith
-closing_bound (OfSize size) (Value v) = size_words_bound size
+closing_bound : (kind : Option Size) (outcome : Outcome) → closing_replies kind outcome ≤ 2
+closing_bound None (Value v) = omega arith
+closing_bound (Some size) (Value v) = size_words_bound size
 closing_bound kind Complete = omega arith
 closing_bound kind BusError = omega arith
 closing_bound kind Illegal = omega arith

@@ -1,7 +1,8 @@
 -- Laws of closing: the words of a request and then NOPs are read to the closing reply and no further.
 use Prim.Native.Nat.{ℕ, zero, suc, ◌+◌, ◌/◌, ◌%◌, ◌≤◌}
 use native.Mathlib.Omega.{arith}
-use Rattle.std.specs.Prelude.{◌≡◌, false, length}
+use Rattle.std.specs.Prelude.{◌≡◌, false, length, None, Option, Some}
+use Rattle.memory.specs.declared.Size.{Size}
 use Rattle.std.proofs.Math.Path.{refl}
 use mathlib.Core.List.{List, [], ◌∷◌, ◌++◌}
 use Rattle.memory.specs.declared.Size.TheVariants.{Byte, Word, Long}
@@ -19,8 +20,6 @@ use Rattle.command.specs.Reply.{complete, bus_error}
 use Rattle.board.specs.State.{State, state_of}
 use Rattle.step.specs.Step.{reply_now, left, plan_for, stepped}
 use Rattle.run.specs.Run.{ran, replies}
-use Rattle.requests.specs.declared.ResultKind.{ResultKind}
-use Rattle.requests.specs.declared.ResultKind.TheVariants.{NoResult, OfSize}
 use Rattle.readings.specs.declared.Outcome.{Outcome}
 use Rattle.readings.specs.declared.Outcome.TheVariants.{Value, Complete, BusError}
 use Rattle.readings.specs.declared.Reader.{Reader}
@@ -32,7 +31,7 @@ use Rattle.round_trip.specs.Meaning.{Scene}
 use Rattle.round_trip.specs.RoundTrip.{nops, resting, closing_replies}
 use Rattle.round_trip.specs.PacketTakenLaws.{under, waits_none, waits_more, due_more, operand_taken, wait_taken, nop_at_rest}
 
-pub record Closes (kind : ResultKind) (words : List ℕ) (reader : Reader) (s : State) (outcome : Outcome) (final : State) : Type 0 where
+pub record Closes (kind : Option Size) (words : List ℕ) (reader : Reader) (s : State) (outcome : Outcome) (final : State) : Type 0 where
   -- the replies to the words bring the outcome
   pub answer : after_replies kind reader (replies words s) ≡ Closed outcome
   -- and not before the last of them
@@ -40,7 +39,7 @@ pub record Closes (kind : ResultKind) (words : List ℕ) (reader : Reader) (s : 
   -- what the words leave
   pub state : ran words s ≡ final
 
-pub closes_on : (kind : ResultKind) (word : ℕ) (words : List ℕ) (reader : Reader) (s : State) (outcome : Outcome) (final : State) → done reader ≡ false
+pub closes_on : (kind : Option Size) (word : ℕ) (words : List ℕ) (reader : Reader) (s : State) (outcome : Outcome) (final : State) → done reader ≡ false
     → Closes kind words (after_reply kind reader (reply_now s.place)) (stepped s word) outcome final
     → Closes kind (word ∷ words) reader s outcome final
 unfolding replies ran
@@ -55,25 +54,25 @@ outcome_of (OneWord v) = Value v
 outcome_of (TwoWords v) = Value v
 
 -- an ending that fits the result asked for
-abbrev pub Fits : ResultKind → Ending → Type 0
-Fits NoResult Completed = Unit {0}
-Fits NoResult Failed = Unit {0}
-Fits NoResult (OneWord v) = ⊥
-Fits NoResult (TwoWords v) = ⊥
-Fits (OfSize size) Completed = ⊥
-Fits (OfSize size) Failed = Unit {0}
-Fits (OfSize Byte) (OneWord v) = v ≤ 0xFF
-Fits (OfSize Word) (OneWord v) = v ≤ 0xFFFF
-Fits (OfSize Long) (OneWord v) = ⊥
-Fits (OfSize Byte) (TwoWords v) = ⊥
-Fits (OfSize Word) (TwoWords v) = ⊥
-Fits (OfSize Long) (TwoWords v) = v ≤ 0xFFFFFFFF
+abbrev pub Fits : Option Size → Ending → Type 0
+Fits None Completed = Unit {0}
+Fits None Failed = Unit {0}
+Fits None (OneWord v) = ⊥
+Fits None (TwoWords v) = ⊥
+Fits (Some size) Completed = ⊥
+Fits (Some size) Failed = Unit {0}
+Fits (Some Byte) (OneWord v) = v ≤ 0xFF
+Fits (Some Word) (OneWord v) = v ≤ 0xFFFF
+Fits (Some Long) (OneWord v) = ⊥
+Fits (Some Byte) (TwoWords v) = ⊥
+Fits (Some Word) (TwoWords v) = ⊥
+Fits (Some Long) (TwoWords v) = v ≤ 0xFFFFFFFF
 
 -- the work is done
 abbrev pub ended_in : Ending → Scene → State
 ended_in e s = state_of s.board (place_with fresh_place (phase_after e) s.chain s.pointer (first_reply e)) s.memory
 
-last_closes : (kind : ResultKind) (reader : Reader) (s : Scene) (reply : ℕ) (outcome : Outcome)
+last_closes : (kind : Option Size) (reader : Reader) (s : Scene) (reply : ℕ) (outcome : Outcome)
     → done reader ≡ false → after_reply kind reader reply ≡ Closed outcome
     → Closes kind (nops 1) reader (resting s reply) outcome (resting s complete)
 unfolding replies ran reply_now
@@ -83,23 +82,23 @@ low_leaves : (s : Scene) (v : ℕ) → stepped (ended_in (TwoWords v) s) 0 ≡ r
 unfolding stepped plan_for
 low_leaves s v = refl
 
-pub ending_closes : (kind : ResultKind) (e : Ending) (s : Scene) → Fits kind e
+pub ending_closes : (kind : Option Size) (e : Ending) (s : Scene) → Fits kind e
     → Closes kind (nops (closing_replies kind (outcome_of e))) First (ended_in e s) (outcome_of e) (resting s complete)
 unfolding reply_now
-ending_closes NoResult Completed s f = last_closes NoResult First s complete Complete refl refl
-ending_closes NoResult Failed s f = last_closes NoResult First s bus_error BusError refl refl
-ending_closes NoResult (OneWord v) s f = absurd f
-ending_closes NoResult (TwoWords v) s f = absurd f
-ending_closes (OfSize size) Completed s f = absurd f
-ending_closes (OfSize size) Failed s f = last_closes (OfSize size) First s bus_error BusError refl refl
-ending_closes (OfSize Byte) (OneWord v) s f = last_closes (OfSize Byte) First s v (Value v) refl (after_byte v f)
-ending_closes (OfSize Word) (OneWord v) s f = last_closes (OfSize Word) First s v (Value v) refl (after_word v f)
-ending_closes (OfSize Long) (OneWord v) s f = absurd f
-ending_closes (OfSize Byte) (TwoWords v) s f = absurd f
-ending_closes (OfSize Word) (TwoWords v) s f = absurd f
-ending_closes (OfSize Long) (TwoWords v) s f =
-    closes_on (OfSize Long) 0 (nops 1) First (ended_in (TwoWords v) s) (Value v) (resting s complete) refl
-    (rw (after_upper v f, low_leaves s v) (last_closes (OfSize Long) (Second (v / 65536)) s (v % 65536) (Value v) refl (after_lower (OfSize Long) v)))
+ending_closes None Completed s f = last_closes None First s complete Complete refl refl
+ending_closes None Failed s f = last_closes None First s bus_error BusError refl refl
+ending_closes None (OneWord v) s f = absurd f
+ending_closes None (TwoWords v) s f = absurd f
+ending_closes (Some size) Completed s f = absurd f
+ending_closes (Some size) Failed s f = last_closes (Some size) First s bus_error BusError refl refl
+ending_closes (Some Byte) (OneWord v) s f = last_closes (Some Byte) First s v (Value v) refl (after_byte v f)
+ending_closes (Some Word) (OneWord v) s f = last_closes (Some Word) First s v (Value v) refl (after_word v f)
+ending_closes (Some Long) (OneWord v) s f = absurd f
+ending_closes (Some Byte) (TwoWords v) s f = absurd f
+ending_closes (Some Word) (TwoWords v) s f = absurd f
+ending_closes (Some Long) (TwoWords v) s f =
+    closes_on (Some Long) 0 (nops 1) First (ended_in (TwoWords v) s) (Value v) (resting s complete) refl
+    (rw (after_upper v f, low_leaves s v) (last_closes (Some Long) (Second (v / 65536)) s (v % 65536) (Value v) refl (after_lower (Some Long) v)))
 
 -- ---- the words before them
 -- operand words taken one after the other
@@ -107,7 +106,7 @@ abbrev pub taken : Operands → List ℕ → Operands
 taken t [] = t
 taken t (word ∷ words) = taken (with_operand t word) words
 
-module _ (kind : ResultKind) (c : Command) (s : State) (outcome : Outcome) (final : State) where
+module _ (kind : Option Size) (c : Command) (s : State) (outcome : Outcome) (final : State) where
   pub waits_close : (k n address value : ℕ) → Closes kind (nops n) First (left (Work c address value) s) outcome final
       → Closes kind (nops (k + n)) First (left (work_after k c address value) s) outcome final
   unfolding reply_now

@@ -1,10 +1,9 @@
 -- Packets (01): the meaning of a request. What it answers and what it leaves, with no W, no phase and no reply in it.
-use Rattle.std.specs.Prelude.{ℕ, cond, List, get_or, set}
+use Rattle.std.specs.Prelude.{ℕ, cond, List, get_or, set, None, Some}
 use Rattle.memory.specs.declared.Size.{Size}
 use Rattle.memory.specs.Memory.{aligned, present, first_missing, value_at, put_at}
 use Rattle.command.specs.declared.DebugRegister.TheVariants.{Tdr}
 use Rattle.board.specs.declared.Board.{Board}
-use Rattle.board.specs.declared.Fault.TheVariants.{NoFault, FaultAt}
 use Rattle.board.specs.declared.Chain.{Chain}
 use Rattle.board.specs.declared.Chain.TheVariants.{Off, Dumping, Filling}
 use Rattle.csr.specs.Csr.{csr_value, after_csr_read, after_go, after_sync_pc}
@@ -30,7 +29,7 @@ pub record Meaning : Type 0 where
 
 -- [4] every command word but NOP's clears the number of the address that was not there
 abbrev pub cleared : Board → Board
-cleared b = with_fault b NoFault
+cleared b = with_fault b None
 
 -- "Any other .. command word .. ends the chain"; the pointer and memory stay
 abbrev pub ends : Outcome → Board → Scene → Meaning
@@ -45,7 +44,7 @@ abbrev pub misses : Size → ℕ → Scene → Meaning
 misses size address s = record {
   outcome = BusError;
   leaves = record {
-    board = with_fault s.board (FaultAt (first_missing s.memory size address));
+    board = with_fault s.board (Some (first_missing s.memory size address));
     chain = Off;
     pointer = s.pointer;
     memory = s.memory;

@@ -1,5 +1,6 @@
 -- The round trip (01, Packets, and by eye): a request's words and then NOPs sent to a place at rest, what they come to, and the promise.
-use Rattle.std.specs.Prelude.{ℕ, ◌+◌, ◌-◌, ◌≤◌, ◌<◌, ◌≡◌, Bool, true, cond, List, [], ◌++◌, length, get_or, replicate, take, drop}
+use Rattle.std.specs.Prelude.{ℕ, ◌+◌, ◌-◌, ◌≤◌, ◌<◌, ◌≡◌, Bool, true, cond, List, [], ◌++◌, length, get_or, replicate, take, drop, Option, None, Ok, Some}
+use Rattle.memory.specs.declared.Size.{Size}
 use Rattle.command.specs.Reply.{complete, illegal}
 use Rattle.board.specs.Board.{fresh_place, at_rest}
 use Rattle.board.specs.Setters.{place_with}
@@ -12,10 +13,8 @@ use Rattle.step.specs.Step.{stepped}
 use Rattle.run.specs.Run.{ran, replies}
 use Rattle.sound.specs.Sound.{Sound}
 use Rattle.requests.specs.declared.Request.{Request}
-use Rattle.requests.specs.declared.ResultKind.{ResultKind}
 use Rattle.readings.specs.declared.Outcome.{Outcome}
 use Rattle.readings.specs.declared.Outcome.TheVariants.{Value, Complete, BusError, Illegal}
-use Rattle.readings.specs.declared.Reading.TheVariants.{Ended, NotYet}
 use Rattle.requests.specs.Request.{kind_of, kind_words}
 use Rattle.building.specs.RequestWords.{command_word, operands, built_words}
 use Rattle.readings.specs.Reading.{reading}
@@ -70,7 +69,7 @@ state_there request s = cond (legal_there request s) (legal_leaves request s) (i
 
 -- ---- the packets
 -- the replies that close a request: the words of its value, or one
-abbrev pub closing_replies : ResultKind → Outcome → ℕ
+abbrev pub closing_replies : Option Size → Outcome → ℕ
 closing_replies kind (Value value) = kind_words kind
 closing_replies kind Complete = 1
 closing_replies kind BusError = 1
@@ -93,9 +92,9 @@ later_replies words s = drop 1 (replies words s)
 
 pub record Trip (request : Request) (words : List ℕ) (s : State) (outcome : Outcome) (final : State) : Type 0 where
   -- the replies are read as the outcome, and all of them are used
-  pub answer : reading request (later_replies words s) ≡ Ended outcome (length words - 1)
+  pub answer : reading request (later_replies words s) ≡ Ok (Some outcome, length words - 1)
   -- until the last of them is in, it is "not yet"
-  pub not_yet : (n : ℕ) → n < length words - 1 → reading request (take n (later_replies words s)) ≡ NotYet n
+  pub not_yet : (n : ℕ) → n < length words - 1 → reading request (take n (later_replies words s)) ≡ Ok (None, n)
   -- what the words leave: the board, the place and memory
   pub state : ran words s ≡ final
 
@@ -110,9 +109,9 @@ words_after request n = operands request ++ nops n
 
 pub record IllegalTrip (request : Request) (n : ℕ) (s : Scene) (next : ℕ) : Type 0 where
   -- with no reply in, it is "not yet"
-  pub not_yet : reading request [] ≡ NotYet 0
+  pub not_yet : reading request [] ≡ Ok (None, 0)
   -- the first reply is read as illegal, and "words after the result are unread"
-  pub answer : reading request (later_replies (all_words request n) (resting s next)) ≡ Ended Illegal 1
+  pub answer : reading request (later_replies (all_words request n) (resting s next)) ≡ Ok (Some Illegal, 1)
   -- the replies are those of the words after the command word, sent to the port as the illegal word leaves it
   pub told : later_replies (all_words request n) (resting s next) ≡ replies (words_after request n) (after_illegal s)
   -- and so is what is left: the board, the place and memory

@@ -1,7 +1,7 @@
 -- Packets (01): a run of packets over a lent list into a lent list of replies, the fold of the step.
-use Rattle.std.specs.Prelude.{ℕ, ◌≡◌, Bool, true, ◌&&◌, List, [], ◌∷◌, ◌++◌, leb, length, drop}
+use Rattle.std.specs.Prelude.{ℕ, ◌≡◌, Bool, true, ◌&&◌, List, [], ◌∷◌, ◌++◌, leb, length, drop, Result, ⊤}
+use Rattle.grounds.specs.declared.Ground.{Ground}
 use Rattle.grounds.specs.declared.Ground.TheVariants.{WordTooLarge, MemoryTooLong, BufferTooShort, StateOutOfRange}
-use Rattle.grounds.specs.declared.Verdict.{Verdict}
 use Rattle.grounds.specs.Grounds.{check, judge, told, if_accepted}
 use Rattle.ranges.specs.Ranges.{in_range}
 use Rattle.board.specs.State.{State, state_of}
@@ -22,7 +22,7 @@ all_within [] = true
 all_within (word ∷ words) = leb word 0x1FFFF && all_within words
 
 -- the grounds of a packet in their order, 1 over all words, then 11; a refused run alters nothing
-unfoldable pub run_verdict : State → List ℕ → ℕ → Verdict
+unfoldable pub run_verdict : State → List ℕ → ℕ → Result ⊤ Ground
 run_verdict s words room =
     judge
     (check (in_range s.board s.place) StateOutOfRange

@@ -1,5 +1,5 @@
 -- Laws of a run: how its loop goes on, and where its replies stand.
-use Rattle.std.specs.Prelude.{ℕ, suc, ◌+◌, ◌≤◌, ◌<◌, ◌≡◌, refl, Bool, true, false, ◌&&◌, List, [], ◌∷◌, ◌++◌, leb, length, get_or, set, take, drop}
+use Rattle.std.specs.Prelude.{ℕ, suc, ◌+◌, ◌≤◌, ◌<◌, ◌≡◌, refl, Bool, true, false, ◌&&◌, List, [], ◌∷◌, ◌++◌, leb, length, get_or, set, take, drop, Ok}
 use Rattle.std.proofs.Common.{sym, ◌∙◌, append_assoc, add-one, arith, length-set, drop_of_length-le, take-append-drop, drop-cons, take-suc-set}
 use Rattle.std.proofs.Common.{drop-set-lt, leb-true}
 use Rattle.board.specs.declared.Board.{Board}
@@ -19,7 +19,6 @@ use Rattle.step.specs.Step.{reply_in, reply_now, left, plan_for, word_taken, ste
 use Rattle.run.specs.Run.{ran, replies, all_within, run_verdict}
 use Rattle.run.specs.RunMirror.{written}
 use Rattle.grounds.specs.declared.Ground.TheVariants.{WordTooLarge, MemoryTooLong, BufferTooShort, StateOutOfRange}
-use Rattle.grounds.specs.declared.Verdict.TheVariants.{Accepted}
 use Rattle.grounds.specs.Grounds.{check}
 use Rattle.grounds.specs.GroundLaws.{accepted_holds}
 
@@ -115,7 +114,7 @@ pub written_whole : (words : List ℕ) (s : State) (out : List ℕ) → length w
 written_whole words s out h = let all : 0 + length words ≡ length words = omega arith in rw all at (written_from words 0 s out (omega arith))
 
 -- a run that is accepted has room for its replies
-pub accepted_has_room : (s : State) (words : List ℕ) (room : ℕ) → run_verdict s words room ≡ Accepted → length words ≤ room
+pub accepted_has_room : (s : State) (words : List ℕ) (room : ℕ) → run_verdict s words room ≡ Ok tt → length words ≤ room
 unfolding run_verdict
 accepted_has_room s words room e =
     let fits = check (leb (length words) room) BufferTooShort ∷ [] in

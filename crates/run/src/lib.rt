@@ -6,14 +6,14 @@ ghost use Rattle.board.specs.State.{state_of};
 ghost use Rattle.run.specs.Run.{ran, all_within, run_verdict, RunMeets};
 ghost use Rattle.run.specs.RunMirror.{written, idled, has_short_way, short_way};
 
-use board::{Board, Fault, Phase, Place};
-use grounds::{Ground, Verdict};
+use board::{Board, Phase, Place};
+use grounds::Ground;
 use plan::Plan;
 use step::Next;
 
 #[derive(Clone, Copy)]
 pub struct Ran {
-    pub verdict: Verdict,
+    pub verdict: Result<(), Ground>,
     pub board: Board,
     pub place: Place,
 }
@@ -40,22 +40,22 @@ fn all_within(words: &[u32]) -> bool
     within
 }
 
-fn judge_run(board: Board, place: Place, memory: &[u8], words: &[u32], room: usize) -> Verdict
+fn judge_run(board: Board, place: Place, memory: &[u8], words: &[u32], room: usize) -> Result<(), Ground>
     ensures { result ≡ run_verdict (state_of board place memory.now) words.now room }
 {
     if ranges::is_in_range(board, place) {
         if memory.len() <= 65536 {
             if all_within(words) {
                 if words.len() <= room {
-                    return Verdict::Accepted;
+                    return Ok(());
                 }
-                return Verdict::Refused(Ground::BufferTooShort);
+                return Err(Ground::BufferTooShort);
             }
-            return Verdict::Refused(Ground::WordTooLarge);
+            return Err(Ground::WordTooLarge);
         }
-        return Verdict::Refused(Ground::MemoryTooLong);
+        return Err(Ground::MemoryTooLong);
     }
-    Verdict::Refused(Ground::StateOutOfRange)
+    Err(Ground::StateOutOfRange)
 }
 
 // A packet that the place alone decides: a NOP at rest, an operand word but the last, and that which brings the low result word.
@@ -131,8 +131,8 @@ fn take_words(
         let Plan::Work(_, _, _) = plan else {
             // Where none is held none is cleared: the board is large, and not copied.
             match held {
-                Fault::NoFault => {}
-                Fault::FaultAt(_) => {
+                None => {}
+                Some(_) => {
                     b = board::set_fault(b, fault);
                 }
             }
@@ -160,7 +160,7 @@ pub fn take_packets(
 {
     let verdict = judge_run(board, place, memory, words, replies.len());
     match verdict {
-        Verdict::Accepted => {
+        Ok(()) => {
             let next = take_words(board, place, memory, words, replies);
             let board_next = next.board;
             let place_next = next.place;
@@ -170,7 +170,7 @@ pub fn take_packets(
                 place: place_next,
             }
         }
-        Verdict::Refused(_) => Ran {
+        Err(_) => Ran {
             verdict: verdict,
             board: board,
             place: place,

@@ -1,20 +1,17 @@
 -- Laws of what an exchange answers: its value is read from replies, so that eight digits hold it, and twenty the number of its packets.
-use Rattle.std.specs.Prelude.{ℕ, ◌+◌, ◌*◌, ◌^◌, ◌≤◌, ◌<◌, ◌≡◌, refl, Bool, true, false, cond, List, [], ◌∷◌, leb, eqb, length}
+use Rattle.std.specs.Prelude.{ℕ, ◌+◌, ◌*◌, ◌^◌, ◌≤◌, ◌<◌, ◌≡◌, refl, Bool, true, false, cond, List, [], ◌∷◌, leb, eqb, length, Err, None, Ok, Option, Result, Some, ⊤}
+use Rattle.grounds.specs.declared.Ground.{Ground}
 use Rattle.std.proofs.Common.{arith, leb-true}
 use Rattle.memory.specs.declared.Size.{Size}
 use Rattle.memory.specs.declared.Size.TheVariants.{Byte, Word, Long}
 use Rattle.command.specs.Reply.{complete, not_ready, bus_error, illegal}
 use Rattle.grounds.specs.declared.Ground.TheVariants.{WordTooLarge, ImpossibleReply, MemoryTooLong, StateOutOfRange, RequestOutOfRange}
-use Rattle.grounds.specs.declared.Verdict.{Verdict}
-use Rattle.grounds.specs.declared.Verdict.TheVariants.{Accepted, Refused}
 use Rattle.grounds.specs.Grounds.{check}
 use Rattle.grounds.specs.GroundLaws.{accepted_holds}
 use Rattle.ranges.specs.Ranges.{in_range as stateInRange}
 use Rattle.board.specs.State.{State}
 use Rattle.sound.specs.Sound.{Sound}
 use Rattle.requests.specs.declared.Request.{Request}
-use Rattle.requests.specs.declared.ResultKind.{ResultKind}
-use Rattle.requests.specs.declared.ResultKind.TheVariants.{NoResult, OfSize}
 use Rattle.requests.specs.Request.{in_range}
 use Rattle.readings.specs.declared.Outcome.{Outcome}
 use Rattle.readings.specs.declared.Outcome.TheVariants.{Value, Complete, BusError, Illegal}
@@ -30,8 +27,6 @@ use Rattle.run.specs.Run.{replies}
 use Rattle.round_trip.specs.ClosesLaws.{Closes}
 use Rattle.round_trip.proofs.RoundTripLaws.{legal_closes}
 use Rattle.round_trip.proofs.TalkLaws.{packets_bound}
-use Rattle.exchange.specs.declared.Exchanged.{Exchanged}
-use Rattle.exchange.specs.declared.Exchanged.TheVariants.{Ended, Refused as RefusedToExchange}
 use Rattle.exchange_verdict.specs.ExchangeVerdict.{exchange_verdict}
 use Rattle.exchange.specs.Exchange.{ended_there, answered_as}
 use Rattle.exchange.specs.ExchangeMirror.{Typed}
@@ -39,9 +34,9 @@ use Rattle.exchange.specs.TypedLaws.{typed_is_sound}
 use Rattle.text_laws.specs.ToldBackLaws.{OutcomeHeld}
 
 -- an answer whose numbers fit their digits
-abbrev pub ExchangeHeld : Exchanged → Type 0
-ExchangeHeld (Ended outcome packets) = OutcomeHeld outcome × (packets < 10 ^ 20)
-ExchangeHeld (RefusedToExchange why) = Unit
+abbrev pub ExchangeHeld : Result (Outcome × ℕ) Ground → Type 0
+ExchangeHeld (Ok (outcome, packets)) = OutcomeHeld outcome × (packets < 10 ^ 20)
+ExchangeHeld (Err why) = Unit
 
 -- a reader holds no more than one result word, and then the value of two
 abbrev ReaderHeld : Reader → Type 0
@@ -59,13 +54,13 @@ result_held Byte reply h = by_test (leb reply 0xFF)
 result_held Word reply h = omega arith
 result_held Long reply h = h
 
-data_held : (kind : ResultKind) (reply : ℕ) → reply ≤ 0xFFFF → ReaderHeld (data_reply kind reply)
-data_held NoResult reply h = by_test (eqb reply complete)
+data_held : (kind : Option Size) (reply : ℕ) → reply ≤ 0xFFFF → ReaderHeld (data_reply kind reply)
+data_held None reply h = by_test (eqb reply complete)
   where
     by_test : (t : Bool) → ReaderHeld (cond t (Closed Complete) (Bad ImpossibleReply))
     by_test true = tt
     by_test false = tt
-data_held (OfSize size) reply h = result_held size reply h
+data_held (Some size) reply h = result_held size reply h
 
 status_held : (reply : ℕ) → ReaderHeld (status_reply reply)
 status_held reply = by_tests (eqb reply not_ready) (eqb reply bus_error) (eqb reply illegal)
@@ -76,7 +71,7 @@ status_held reply = by_tests (eqb reply not_ready) (eqb reply bus_error) (eqb re
     by_tests false false true = tt
     by_tests false false false = tt
 
-first_held : (kind : ResultKind) (reply : ℕ) → ReaderHeld (first_reply kind reply)
+first_held : (kind : Option Size) (reply : ℕ) → ReaderHeld (first_reply kind reply)
 first_held kind reply = by_test (leb reply 0xFFFF) refl
   where
     by_test : (t : Bool) → leb reply 0xFFFF ≡ t → ReaderHeld (cond t (data_reply kind reply) (status_reply reply))
@@ -90,7 +85,7 @@ second_held upper reply h = by_test (leb reply 0xFFFF) refl
     by_test true e = let low : reply ≤ 0xFFFF = leb-true reply 0xFFFF e in omega arith
     by_test false e = tt
 
-reply_held : (kind : ResultKind) (reader : Reader) (reply : ℕ) → ReaderHeld reader → ReaderHeld (after_reply kind reader reply)
+reply_held : (kind : Option Size) (reader : Reader) (reply : ℕ) → ReaderHeld reader → ReaderHeld (after_reply kind reader reply)
 reply_held kind First reply h = by_test (leb reply 0x1FFFF)
   where
     by_test : (t : Bool) → ReaderHeld (cond t (first_reply kind reply) (Bad WordTooLarge))
@@ -104,11 +99,11 @@ reply_held kind (Second upper) reply h = by_test (leb reply 0x1FFFF)
 reply_held kind (Closed outcome) reply h = h
 reply_held kind (Bad why) reply h = tt
 
-replies_held : (kind : ResultKind) (reader : Reader) (replies : List ℕ) → ReaderHeld reader → ReaderHeld (after_replies kind reader replies)
+replies_held : (kind : Option Size) (reader : Reader) (replies : List ℕ) → ReaderHeld reader → ReaderHeld (after_replies kind reader replies)
 replies_held kind reader [] h = h
 replies_held kind reader (reply ∷ replies) h = replies_held kind (after_reply kind reader reply) replies (reply_held kind reader reply h)
 
-closes_held : {kind : ResultKind} {words : List ℕ} {s final : State} {outcome : Outcome} → Closes kind words First s outcome final → OutcomeHeld outcome
+closes_held : {kind : Option Size} {words : List ℕ} {s final : State} {outcome : Outcome} → Closes kind words First s outcome final → OutcomeHeld outcome
 closes_held {kind} {words} {s} c = rw c.answer at (replies_held kind First (replies words s) tt)
 
 -- what a request comes to there
@@ -120,7 +115,7 @@ there_held request s h z = by_test (legal_there request s) refl
     by_test false l = tt
 
 -- what is not refused is within its ranges
-ranges : (request : Request) (s : State) → Typed s → exchange_verdict request s ≡ Accepted → (in_range request ≡ true) × Sound s
+ranges : (request : Request) (s : State) → Typed s → exchange_verdict request s ≡ Ok tt → (in_range request ≡ true) × Sound s
 unfolding exchange_verdict
 ranges request s typed e =
     let state = check (stateInRange s.board s.place) StateOutOfRange in
@@ -134,12 +129,12 @@ ranges request s typed e =
 pub exchange_held : (request : Request) (s : State) → Typed s → ExchangeHeld (answered_as (exchange_verdict request s) (ended_there request s))
 exchange_held request s typed = by_verdict (exchange_verdict request s) refl
   where
-    by_verdict : (v : Verdict) → exchange_verdict request s ≡ v → ExchangeHeld (answered_as v (ended_there request s))
-    by_verdict Accepted e =
+    by_verdict : (v : Result ⊤ Ground) → exchange_verdict request s ≡ v → ExchangeHeld (answered_as v (ended_there request s))
+    by_verdict (Ok _) e =
         let r = ranges request s typed e in
         let rested = rest_keeps_sound rest_budget s r.1 in
         let few = packets_bound request (rest_scene s) rested.board.small in
         let nops = rest_nops_bound rest_budget r.1 in
         let w : s.board.w ≤ 15 = r.1.board.small in
         (there_held request (rest_scene s) r.0 (sound_is_sized rested), omega arith)
-    by_verdict (Refused why) e = tt
+    by_verdict (Err why) e = tt

@@ -1,26 +1,22 @@
 -- Laws of lines that are clear: none of them is taken for a silent one, and `peek` shows "N from 1 to 400" bytes.
-use Rattle.std.specs.Prelude.{ℕ, ◌≤◌, ◌≡◌, refl, Bool, true, false, cond, ◌&&◌, List, [], ◌∷◌, leb}
+use Rattle.std.specs.Prelude.{ℕ, ◌≤◌, ◌≡◌, refl, Bool, true, false, cond, ◌&&◌, List, [], ◌∷◌, leb, None, Some}
+use Rattle.requests.specs.declared.Request.{Request}
+use Rattle.halting.specs.declared.Privilege.{Privilege}
 use Rattle.std.proofs.Math.Option.{Option, none, some}
 use Rattle.std.proofs.Common.{leb-true}
 use Rattle.laws.specs.TestLaws.{both_hold}
 use Rattle.words.specs.LineWords.{ascii, same}
 use Rattle.words.specs.NameTable.{Row, row, found}
-use Rattle.numbers.specs.declared.Numeral.{Numeral}
-use Rattle.numbers.specs.declared.Numeral.TheVariants.{Value, NoNumber}
 use Rattle.numbers.specs.declared.Numbers.{Numbers}
 use Rattle.numbers.specs.declared.Numbers.TheVariants.{Zero, One, Two, Three, Four, NotNumbers}
 use Rattle.numbers.specs.Numbers.{numeral, more, numbers}
 use Rattle.halting.specs.declared.Privilege.TheVariants.{User, Supervisor}
-use Rattle.halting.specs.declared.Mark.{Mark}
-use Rattle.halting.specs.declared.Mark.TheVariants.{Absent, Halt}
 use Rattle.board_lines.specs.declared.BoardLine.{BoardLine}
 use Rattle.board_lines.specs.declared.BoardLine.TheVariants.{Nothing, Make, Memory, Bytes, Packet, Event as EventLine}
 use Rattle.board_lines.specs.declared.BoardLine.TheVariants.{EventWithAccess, Breakpoint, Peek, State, Unclear}
 use Rattle.board_lines.specs.EventLines.{event_form, halt_form, halt_line, event_from, event_line}
 use Rattle.board_lines.specs.BoardLines.{memory_line, peek_line, board_of_none, board_of_one, board_of_two, board_form}
 use Rattle.board_lines.specs.BoardLines.{is_hex, hex_line, bytes_line, board_words}
-use Rattle.request_lines.specs.declared.Asked.{Asked}
-use Rattle.request_lines.specs.declared.Asked.TheVariants.{For, NoRequest}
 use Rattle.request_lines.specs.RequestLines.{request_of}
 use Rattle.talk_lines.specs.declared.TalkLine.{TalkLine}
 use Rattle.talk_lines.specs.declared.TalkLine.TheVariants.{Board as BoardAsked, Ask}
@@ -57,7 +53,7 @@ Fit Unclear = Unit
 memory_fit : (n : ℕ) → Fit (memory_line n)
 memory_fit n = one_of Fit (leb n 0x10010) (Memory n) Unclear tt tt
 
-event_form_fit : (ns : Numbers) (mark : Mark) → Fit (event_form ns mark)
+event_form_fit : (ns : Numbers) (mark : Option Privilege) → Fit (event_form ns mark)
 event_form_fit Zero mark = tt
 event_form_fit (One pc) mark = tt
 event_form_fit (Two a b) mark = tt
@@ -70,13 +66,13 @@ unfolding halt_form
 halt_fit before [] = tt
 halt_fit before (privilege ∷ []) =
     of_found Fit Unclear privilege
-    (row (ascii "user") (event_form before (Halt User)) ∷ row (ascii "supervisor") (event_form before (Halt Supervisor)) ∷ [])
+    (row (ascii "user") (event_form before (Some User)) ∷ row (ascii "supervisor") (event_form before (Some Supervisor)) ∷ [])
     tt
-    (event_form_fit before (Halt User), (event_form_fit before (Halt Supervisor), tt))
+    (event_form_fit before (Some User), (event_form_fit before (Some Supervisor), tt))
 halt_fit before (privilege ∷ word ∷ ws) = tt
 
 event_from_fit : (before : Numbers) (ws : List (List ℕ)) → Fit (event_from before ws)
-event_from_fit before [] = event_form_fit before Absent
+event_from_fit before [] = event_form_fit before None
 event_from_fit before (word ∷ ws) =
     one_of Fit (same word (ascii "halt")) (halt_line before ws) _ (halt_fit before ws) (event_from_fit (more before (numeral word)) ws)
 
@@ -104,10 +100,10 @@ form_fit name (Three a b c) = tt
 form_fit name (Four a b c d) = tt
 form_fit name NotNumbers = tt
 
-hex_fit : (close : ℕ) (address : Numeral) (hex : List ℕ) → Fit (hex_line close address hex)
+hex_fit : (close : ℕ) (address : Option ℕ) (hex : List ℕ) → Fit (hex_line close address hex)
 unfolding hex_line
-hex_fit close (Value a) hex = one_of Fit (is_hex hex) _ Unclear tt tt
-hex_fit close NoNumber hex = tt
+hex_fit close (Some a) hex = one_of Fit (is_hex hex) _ Unclear tt tt
+hex_fit close None hex = tt
 
 bytes_fit : (close : ℕ) (ws : List (List ℕ)) → Fit (bytes_line close ws)
 bytes_fit close [] = tt
@@ -128,9 +124,9 @@ abbrev pub TalkFit : TalkLine → Type 0
 TalkFit (BoardAsked line) = Fit line
 TalkFit (Ask request) = Unit
 
-pub either_fit : (asked : Asked) (line : BoardLine) → Fit line → TalkFit (asked_or asked line)
-either_fit (For request) line f = tt
-either_fit NoRequest line f = f
+pub either_fit : (asked : Option Request) (line : BoardLine) → Fit line → TalkFit (asked_or asked line)
+either_fit (Some request) line f = tt
+either_fit None line f = f
 
 without_fit : (line : BoardLine) → Fit line → Fit (without_packet line)
 without_fit Nothing f = f
@@ -156,14 +152,14 @@ PodFit (builds request) = Unit
 PodFit (reads request replies) = Unit
 PodFit unclear = Unit
 
-build_fit : (asked : Asked) → PodFit (build_line asked)
-build_fit (For request) = tt
-build_fit NoRequest = tt
+build_fit : (asked : Option Request) → PodFit (build_line asked)
+build_fit (Some request) = tt
+build_fit None = tt
 
-read_fit : (asked : Asked) (replies : Option (List (List ℕ))) → PodFit (read_line asked replies)
-read_fit (For request) (some replies) = tt
-read_fit (For request) none = tt
-read_fit NoRequest replies = tt
+read_fit : (asked : Option Request) (replies : Option (List (List ℕ))) → PodFit (read_line asked replies)
+read_fit (Some request) (some replies) = tt
+read_fit (Some request) none = tt
+read_fit None replies = tt
 
 pub pod_fit : (ws : List (List ℕ)) → PodFit (pod_words ws)
 unfolding pod_words

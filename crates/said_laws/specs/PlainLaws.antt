@@ -1,32 +1,22 @@
 -- Laws of what an answer is made of: letters, digits and spaces, so that no line end is among its bytes; and every answer but that to a silent line has some.
-use Rattle.std.specs.Prelude.{ℕ, zero, suc, ◌+◌, ◌/◌, ◌%◌, ◌^◌, ◌≤◌, ◌<◌, ◌≡◌, refl, Bool, true, false, cond, ◌&&◌, List, [], ◌∷◌, ◌++◌, leb, ltb}
+use Rattle.std.specs.Prelude.{ℕ, zero, suc, ◌+◌, ◌/◌, ◌%◌, ◌^◌, ◌≤◌, ◌<◌, ◌≡◌, refl, Bool, true, false, cond, ◌&&◌, List, [], ◌∷◌, ◌++◌, leb, ltb, Err, None, Ok, Option, Result, Some, ⊤}
+use Rattle.firing.specs.declared.Pressed.{Pressed}
+use Rattle.firing.specs.declared.Seen.{Seen}
 use Rattle.std.specs.Prelude.{length, get_or, take}
 use Prim.Native.String.{String}
 use Rattle.std.proofs.Common.{arith, length-append, leb-true, le-leb, ne_eqb}
 use Rattle.laws.specs.TestLaws.{both_hold}
 use Rattle.grounds.specs.declared.Ground.{Ground}
-use Rattle.grounds.specs.declared.Verdict.{Verdict}
-use Rattle.grounds.specs.declared.Verdict.TheVariants.{Accepted, Refused}
 use Rattle.grounds.specs.Grounds.{number}
 use Rattle.board.specs.declared.Board.{Board}
-use Rattle.board.specs.declared.Fault.{Fault}
-use Rattle.board.specs.declared.Fault.TheVariants.{NoFault, FaultAt}
 use Rattle.board.specs.declared.Place.{Place}
 use Rattle.board.specs.declared.Phase.{Phase}
 use Rattle.board.specs.declared.Phase.TheVariants.{Rest, Due, Waiting, Upper}
 use Rattle.board.specs.declared.Chain.{Chain}
 use Rattle.board.specs.declared.Chain.TheVariants.{Off, Dumping, Filling}
 use Rattle.board.specs.Board.{making_verdict}
-use Rattle.port.specs.declared.Outcome.{Outcome}
-use Rattle.port.specs.declared.Outcome.TheVariants.{Reply, Refusing}
-use Rattle.firing.specs.declared.Captured.{Captured}
-use Rattle.firing.specs.declared.Captured.TheVariants.{Nothing as NoPc, Pc}
 use Rattle.halting.specs.declared.Halting.{Halting}
 use Rattle.halting.specs.declared.Halting.TheVariants.{NoHalt, Halts, Ignored}
-use Rattle.bus.specs.declared.EventOutcome.{EventOutcome}
-use Rattle.bus.specs.declared.EventOutcome.TheVariants as event
-use Rattle.bus.specs.declared.BreakpointOutcome.{BreakpointOutcome}
-use Rattle.bus.specs.declared.BreakpointOutcome.TheVariants as breakpoint
 use Rattle.bus.specs.Events.{event_outcome, breakpoint_outcome}
 use Rattle.lent.specs.Lent.{fits}
 use Rattle.board_lines.specs.declared.BoardLine.{BoardLine}
@@ -34,14 +24,10 @@ use Rattle.board_lines.specs.declared.BoardLine.TheVariants.{Nothing, Make, Memo
 use Rattle.board_lines.specs.declared.BoardLine.TheVariants.{EventWithAccess, Breakpoint, Peek, State, Unclear}
 use Rattle.readings.specs.declared.Outcome.{Outcome as Closing}
 use Rattle.readings.specs.declared.Outcome.TheVariants.{Value, Complete, BusError, Illegal}
-use Rattle.readings.specs.declared.Reading.{Reading}
-use Rattle.readings.specs.declared.Reading.TheVariants.{Ended as EndedThere, NotYet, Refused as RefusedToRead}
 use Rattle.readings.specs.Reading.{reading}
 use Rattle.requests.specs.declared.Request.{Request}
 use Rattle.building.specs.RequestWords.{built_words}
 use Rattle.building.specs.Building.{building_verdict}
-use Rattle.exchange.specs.declared.Exchanged.{Exchanged}
-use Rattle.exchange.specs.declared.Exchanged.TheVariants.{Ended, Refused as RefusedToExchange}
 use Rattle.console.specs.InputLines.{is_line_end, has_ended}
 use Rattle.text.specs.Text.{ascii, flag_text}
 use Rattle.text.specs.NumberText.{digit_text, digits_text, hex_text, number_text, decimal_text, width}
@@ -147,34 +133,34 @@ refused_spoken : (why : Ground) (cycle : ℕ) → Spoken (refused_at why cycle)
 refused_spoken why cycle =
     record { some = omega arith; plain = letters "refused " refl and decimal (number why) and letters " at " refl and decimal cycle }
 
-packet_spoken : (o : Outcome) → Spoken (packet_text o)
-packet_spoken (Reply reply) = record { some = omega arith; plain = letters "reply " refl and hex 5 reply }
-packet_spoken (Refusing why) = refused_spoken why 0
+packet_spoken : (o : Result ℕ Ground) → Spoken (packet_text o)
+packet_spoken (Ok reply) = record { some = omega arith; plain = letters "reply " refl and hex 5 reply }
+packet_spoken (Err why) = refused_spoken why 0
 
 halted_plain : (halted interrupt : Bool) → Plain (halted_text halted interrupt)
 halted_plain halted interrupt = letters " halted " refl and flag_plain halted and letters " interrupt " refl and flag_plain interrupt
 
-captured_plain : (captured : Captured) → Plain (captured_text captured)
-captured_plain NoPc = record { bytes = refl }
-captured_plain (Pc pc) = letters " pc " refl and hex 8 pc
+captured_plain : (captured : Option ℕ) → Plain (captured_text captured)
+captured_plain None = record { bytes = refl }
+captured_plain (Some pc) = letters " pc " refl and hex 8 pc
 
 halting_plain : (halting : Halting) → Plain (halting_text halting)
 halting_plain NoHalt = record { bytes = refl }
 halting_plain Halts = record { bytes = refl }
 halting_plain Ignored = record { bytes = refl }
 
-event_spoken : (o : EventOutcome) → Spoken (event_text o)
-event_spoken (event.Refused why) = refused_spoken why 0
-event_spoken (event.Taken seen) =
+event_spoken : (o : Result Seen Ground) → Spoken (event_text o)
+event_spoken (Err why) = refused_spoken why 0
+event_spoken (Ok seen) =
     record {
       some = omega arith;
       plain = letters "event level " refl and hex 1 seen.level and halted_plain seen.halted seen.interrupt and captured_plain seen.captured
           and halting_plain seen.halting;
     }
 
-breakpoint_spoken : (o : BreakpointOutcome) → Spoken (breakpoint_text o)
-breakpoint_spoken (breakpoint.Refused why) = refused_spoken why 0
-breakpoint_spoken (breakpoint.Taken pressed) =
+breakpoint_spoken : (o : Result Pressed Ground) → Spoken (breakpoint_text o)
+breakpoint_spoken (Err why) = refused_spoken why 0
+breakpoint_spoken (Ok pressed) =
     record { some = omega arith; plain = letters "breakpoint" refl and halted_plain pressed.halted pressed.interrupt }
 
 bytes_plain : (m : List ℕ) (from count : ℕ) → Plain (bytes_text m from count)
@@ -216,9 +202,9 @@ place_plain : (p : Place) → Plain (place_text p)
 place_plain p =
     phase_plain p.phase and chain_plain p.chain and letters " pointer=" refl and hex 5 p.pointer and letters " next=" refl and hex 5 p.next
 
-fault_plain : (fault : Fault) → Plain (fault_text fault)
-fault_plain NoFault = record { bytes = refl }
-fault_plain (FaultAt first) = letters " fault=" refl and hex 8 first
+fault_plain : (fault : Option ℕ) → Plain (fault_text fault)
+fault_plain None = record { bytes = refl }
+fault_plain (Some first) = letters " fault=" refl and hex 8 first
 
 state_spoken : (b : Board) (p : Place) → Spoken (state_text b p)
 unfolding state_text
@@ -229,9 +215,9 @@ state_spoken b p =
     }
 
 -- the other lines of the board's
-made_spoken : (v : Verdict) → Spoken (made_text v)
-made_spoken Accepted = record { some = omega arith; plain = letters "made" refl }
-made_spoken (Refused why) = refused_spoken why 0
+made_spoken : (v : Result ⊤ Ground) → Spoken (made_text v)
+made_spoken (Ok _) = record { some = omega arith; plain = letters "made" refl }
+made_spoken (Err why) = refused_spoken why 0
 
 pub unclear_spoken : Spoken unclear_text
 unclear_spoken = record { some = omega arith; plain = letters "unclear" refl }
@@ -269,26 +255,26 @@ outcome_spoken Illegal = record { some = omega arith; plain = letters "illegal" 
 with_rest : {t u : List ℕ} → Spoken t → Plain u → Spoken (t ++ u)
 with_rest {t} {u} s p = record { some = simp length-append (omega (arith, s.some)); plain = s.plain and p }
 
-pub exchange_spoken : (x : Exchanged) → Spoken (exchanged_text x)
-exchange_spoken (Ended outcome packets) = with_rest (with_rest (outcome_spoken outcome) (letters " packets " refl)) (decimal packets)
-exchange_spoken (RefusedToExchange why) = refused_spoken why 0
+pub exchange_spoken : (x : Result (Outcome × ℕ) Ground) → Spoken (exchanged_text x)
+exchange_spoken (Ok (outcome, packets)) = with_rest (with_rest (outcome_spoken outcome) (letters " packets " refl)) (decimal packets)
+exchange_spoken (Err why) = refused_spoken why 0
 
 -- the pod's half
 used_plain : (used : ℕ) → Plain (used_text used)
 used_plain used = letters " used " refl and decimal used
 
-reading_spoken : (r : Reading) → Spoken (reading_text r)
-reading_spoken (EndedThere outcome used) = with_rest (outcome_spoken outcome) (used_plain used)
-reading_spoken (NotYet used) = record { some = omega arith; plain = letters "not-yet" refl and used_plain used }
-reading_spoken (RefusedToRead why) = refused_spoken why 0
+reading_spoken : (r : Result (Option Outcome × ℕ) Ground) → Spoken (reading_text r)
+reading_spoken (Ok (Some outcome, used)) = with_rest (outcome_spoken outcome) (used_plain used)
+reading_spoken (Ok (None, used)) = record { some = omega arith; plain = letters "not-yet" refl and used_plain used }
+reading_spoken (Err why) = refused_spoken why 0
 
 each_plain : (words : List ℕ) → Plain (each_word words)
 each_plain [] = record { bytes = refl }
 each_plain (word ∷ words) = letters " " refl and hex 5 word and each_plain words
 
-built_spoken : (v : Verdict) (words : List ℕ) → Spoken (built_by v words)
-built_spoken Accepted words = record { some = omega arith; plain = letters "words" refl and each_plain words }
-built_spoken (Refused why) words = refused_spoken why 0
+built_spoken : (v : Result ⊤ Ground) (words : List ℕ) → Spoken (built_by v words)
+built_spoken (Ok _) words = record { some = omega arith; plain = letters "words" refl and each_plain words }
+built_spoken (Err why) words = refused_spoken why 0
 
 read_spoken : (request : Request) (t : Taken) (replies : List ℕ) → Spoken (read_text request t replies)
 read_spoken request (Count n) replies = reading_spoken (reading request replies)

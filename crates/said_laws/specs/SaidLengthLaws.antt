@@ -1,29 +1,19 @@
 -- Laws of how long an answer is: at most 4,095 bytes, so that a text of 4,096, as the programs lend it, has room for it and its line end.
-use Rattle.std.specs.Prelude.{ℕ, zero, suc, ◌*◌, ◌≤◌, ◌≡◌, refl, Bool, true, false, List, [], ◌∷◌, length, get_or, take}
+use Rattle.std.specs.Prelude.{ℕ, zero, suc, ◌*◌, ◌≤◌, ◌≡◌, refl, Bool, true, false, List, [], ◌∷◌, length, get_or, take, Err, None, Ok, Option, Result, Some, ⊤}
+use Rattle.firing.specs.declared.Pressed.{Pressed}
+use Rattle.firing.specs.declared.Seen.{Seen}
 use Rattle.std.proofs.Common.{arith, length-append, leb-true}
 use Rattle.grounds.specs.declared.Ground.{Ground}
-use Rattle.grounds.specs.declared.Verdict.{Verdict}
-use Rattle.grounds.specs.declared.Verdict.TheVariants.{Accepted, Refused}
 use Rattle.grounds.specs.Grounds.{number}
 use Rattle.board.specs.declared.Board.{Board}
-use Rattle.board.specs.declared.Fault.{Fault}
-use Rattle.board.specs.declared.Fault.TheVariants.{NoFault, FaultAt}
 use Rattle.board.specs.declared.Place.{Place}
 use Rattle.board.specs.declared.Phase.{Phase}
 use Rattle.board.specs.declared.Phase.TheVariants.{Rest, Due, Waiting, Upper}
 use Rattle.board.specs.declared.Chain.{Chain}
 use Rattle.board.specs.declared.Chain.TheVariants.{Off, Dumping, Filling}
 use Rattle.board.specs.Board.{making_verdict}
-use Rattle.port.specs.declared.Outcome.{Outcome}
-use Rattle.port.specs.declared.Outcome.TheVariants.{Reply, Refusing}
-use Rattle.firing.specs.declared.Captured.{Captured}
-use Rattle.firing.specs.declared.Captured.TheVariants.{Nothing as NoPc, Pc}
 use Rattle.halting.specs.declared.Halting.{Halting}
 use Rattle.halting.specs.declared.Halting.TheVariants.{NoHalt, Halts, Ignored}
-use Rattle.bus.specs.declared.EventOutcome.{EventOutcome}
-use Rattle.bus.specs.declared.EventOutcome.TheVariants as event
-use Rattle.bus.specs.declared.BreakpointOutcome.{BreakpointOutcome}
-use Rattle.bus.specs.declared.BreakpointOutcome.TheVariants as breakpoint
 use Rattle.bus.specs.Events.{event_outcome, breakpoint_outcome}
 use Rattle.lent.specs.Lent.{fits}
 use Rattle.board_lines.specs.declared.BoardLine.{BoardLine}
@@ -31,8 +21,6 @@ use Rattle.board_lines.specs.declared.BoardLine.TheVariants.{Nothing, Make, Memo
 use Rattle.board_lines.specs.declared.BoardLine.TheVariants.{EventWithAccess, Breakpoint, Peek, State, Unclear}
 use Rattle.readings.specs.declared.Outcome.{Outcome as Closing}
 use Rattle.readings.specs.declared.Outcome.TheVariants.{Value, Complete, BusError, Illegal}
-use Rattle.readings.specs.declared.Reading.{Reading}
-use Rattle.readings.specs.declared.Reading.TheVariants.{Ended as EndedThere, NotYet, Refused as RefusedToRead}
 use Rattle.readings.specs.Reading.{reading}
 use Rattle.requests.specs.declared.Request.{Request}
 use Rattle.building.specs.RequestWords.{built_words}
@@ -42,8 +30,6 @@ use Rattle.pod_lines.specs.declared.Taken.{Taken}
 use Rattle.pod_lines.specs.declared.Taken.TheVariants.{Count, TooMany, NotAllNumbers}
 use Rattle.pod_lines.specs.Taking.{values, counted, taken}
 use Rattle.pod_lines.specs.PodLines.{Meaning, nothing, builds, reads, unclear}
-use Rattle.exchange.specs.declared.Exchanged.{Exchanged}
-use Rattle.exchange.specs.declared.Exchanged.TheVariants.{Ended, Refused as RefusedToExchange}
 use Rattle.text.specs.Text.{flag_text}
 use Rattle.text.specs.NumberText.{digits_text}
 use Rattle.text.proofs.NumberTextLaws.{digits_length, number_length, decimal_length}
@@ -65,33 +51,33 @@ use Rattle.said_laws.specs.FitLineLaws.{Fit}
 refused_length : (g : Ground) (cycle : ℕ) → length (refused_at g cycle) ≤ 64
 refused_length g cycle = simp length-append (omega (arith, decimal_length (number g), decimal_length cycle))
 
-packet_length : (o : Outcome) → length (packet_text o) ≤ 64
-packet_length (Reply reply) = simp length-append (omega (arith, digits_length 16 5 reply))
-packet_length (Refusing why) = refused_length why 0
+packet_length : (o : Result ℕ Ground) → length (packet_text o) ≤ 64
+packet_length (Ok reply) = simp length-append (omega (arith, digits_length 16 5 reply))
+packet_length (Err why) = refused_length why 0
 
 flag_length : (flag : Bool) → length (flag_text flag) ≡ 1
 flag_length true = refl
 flag_length false = refl
 
-captured_length : (captured : Captured) → length (captured_text captured) ≤ 16
-captured_length NoPc = omega arith
-captured_length (Pc pc) = simp length-append (omega (arith, digits_length 16 8 pc))
+captured_length : (captured : Option ℕ) → length (captured_text captured) ≤ 16
+captured_length None = omega arith
+captured_length (Some pc) = simp length-append (omega (arith, digits_length 16 8 pc))
 
 halting_length : (halting : Halting) → length (halting_text halting) ≤ 10
 halting_length NoHalt = omega arith
 halting_length Halts = omega arith
 halting_length Ignored = omega arith
 
-event_length : (o : EventOutcome) → length (event_text o) ≤ 64
-event_length (event.Refused why) = refused_length why 0
-event_length (event.Taken seen) =
+event_length : (o : Result Seen Ground) → length (event_text o) ≤ 64
+event_length (Err why) = refused_length why 0
+event_length (Ok seen) =
     let level = digits_length 16 1 seen.level in
     let end = captured_length seen.captured in
     simp length-append (omega (arith, level, flag_length seen.halted, flag_length seen.interrupt, end, halting_length seen.halting))
 
-breakpoint_length : (o : BreakpointOutcome) → length (breakpoint_text o) ≤ 64
-breakpoint_length (breakpoint.Refused why) = refused_length why 0
-breakpoint_length (breakpoint.Taken pressed) = simp length-append (omega (arith, flag_length pressed.halted, flag_length pressed.interrupt))
+breakpoint_length : (o : Result Pressed Ground) → length (breakpoint_text o) ≤ 64
+breakpoint_length (Err why) = refused_length why 0
+breakpoint_length (Ok pressed) = simp length-append (omega (arith, flag_length pressed.halted, flag_length pressed.interrupt))
 
 bytes_length : (m : List ℕ) (from count : ℕ) → length (bytes_text m from count) ≡ 2 * count
 bytes_length m from zero = refl
@@ -112,9 +98,9 @@ chain_length Off = refl
 chain_length Dumping = refl
 chain_length Filling = refl
 
-fault_length : (fault : Fault) → length (fault_text fault) ≤ 16
-fault_length NoFault = omega arith
-fault_length (FaultAt first) = simp length-append (omega (arith, digits_length 16 8 first))
+fault_length : (fault : Option ℕ) → length (fault_text fault) ≤ 16
+fault_length None = omega arith
+fault_length (Some first) = simp length-append (omega (arith, digits_length 16 8 first))
 
 pub state_length : (b : Board) (p : Place) → length (state_text b p) ≤ 1024
 unfolding state_text
@@ -124,9 +110,9 @@ state_length b p =
     let next = digits_length 16 5 p.next in
     simp length-append (omega (arith, registers_length b, sync, phase_length p.phase, chain_length p.chain, pointer, next, fault_length b.fault))
 
-made_length : (v : Verdict) → length (made_text v) ≤ 64
-made_length Accepted = omega arith
-made_length (Refused why) = refused_length why 0
+made_length : (v : Result ⊤ Ground) → length (made_text v) ≤ 64
+made_length (Ok _) = omega arith
+made_length (Err why) = refused_length why 0
 
 bytes_put_length : (fitting : Bool) (n : ℕ) → length (bytes_put_text fitting n) ≤ 64
 bytes_put_length true n = simp length-append (omega (arith, number_length n))
@@ -159,23 +145,23 @@ outcome_length Complete = omega arith
 outcome_length BusError = omega arith
 outcome_length Illegal = omega arith
 
-pub exchanged_length : (x : Exchanged) → length (exchanged_text x) ≤ 4095
-exchanged_length (Ended outcome packets) = simp length-append (omega (arith, outcome_length outcome, decimal_length packets))
-exchanged_length (RefusedToExchange why) = omega (arith, refused_length why 0)
+pub exchanged_length : (x : Result (Outcome × ℕ) Ground) → length (exchanged_text x) ≤ 4095
+exchanged_length (Ok (outcome, packets)) = simp length-append (omega (arith, outcome_length outcome, decimal_length packets))
+exchanged_length (Err why) = omega (arith, refused_length why 0)
 
 -- of the pod's half: no request has more than five words
 each_length : (words : List ℕ) → length (each_word words) ≡ 6 * length words
 each_length [] = refl
 each_length (word ∷ words) = simp length-append (omega (arith, digits_length 16 5 word, each_length words))
 
-built_length : (v : Verdict) (words : List ℕ) → length words ≤ 5 → length (built_by v words) ≤ 4095
-built_length Accepted words few = simp length-append (omega (arith, each_length words))
-built_length (Refused why) words few = omega (arith, refused_length why 0)
+built_length : (v : Result ⊤ Ground) (words : List ℕ) → length words ≤ 5 → length (built_by v words) ≤ 4095
+built_length (Ok _) words few = simp length-append (omega (arith, each_length words))
+built_length (Err why) words few = omega (arith, refused_length why 0)
 
-reading_length : (r : Reading) → length (reading_text r) ≤ 4095
-reading_length (EndedThere outcome used) = simp length-append (omega (arith, outcome_length outcome, decimal_length used))
-reading_length (NotYet used) = simp length-append (omega (arith, decimal_length used))
-reading_length (RefusedToRead why) = omega (arith, refused_length why 0)
+reading_length : (r : Result (Option Outcome × ℕ) Ground) → length (reading_text r) ≤ 4095
+reading_length (Ok (Some outcome, used)) = simp length-append (omega (arith, outcome_length outcome, decimal_length used))
+reading_length (Ok (None, used)) = simp length-append (omega (arith, decimal_length used))
+reading_length (Err why) = omega (arith, refused_length why 0)
 
 read_length : (request : Request) (t : Taken) (replies : List ℕ) → length (read_text request t replies) ≤ 4095
 read_length request (Count n) replies = reading_length (reading request replies)

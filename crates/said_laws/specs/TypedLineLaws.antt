@@ -1,5 +1,5 @@
 -- Laws of lines that are a name and one number, as it is typed: what they are heard as in `stand_in` and in `talk`.
-use Rattle.std.specs.Prelude.{ℕ, ◌+◌, ◌^◌, ◌≤◌, ◌<◌, ◌≡◌, refl, Bool, true, false, cond, ◌&&◌, not, List, [], ◌∷◌, ◌++◌, leb, eqb, length, take, drop}
+use Rattle.std.specs.Prelude.{ℕ, ◌+◌, ◌^◌, ◌≤◌, ◌<◌, ◌≡◌, refl, Bool, true, false, cond, ◌&&◌, not, List, [], ◌∷◌, ◌++◌, leb, eqb, length, take, drop, Some}
 use Rattle.std.proofs.Common.{ap, sym, ◌∙◌, arith, length-append, le-leb, eqb-true}
 use Rattle.std.proofs.Math.Bool.{and-false}
 use Rattle.laws.specs.TestLaws.{both_hold}
@@ -8,7 +8,6 @@ use Rattle.words.specs.LineWords.{ascii, is_gap, is_silent, kind_of, words, lowe
 use Rattle.words.specs.LineWordLaws.{same_equal}
 use Rattle.words.specs.CaseLaws.{gap_lower, same_lower}
 use Rattle.words.specs.GapLaws.{words_apart, has_no_gap, word_alone}
-use Rattle.numbers.specs.declared.Numeral.TheVariants.{Value}
 use Rattle.numbers.specs.Numbers.{digit, is_digit, all_digits, prefix_length, digits_of, value, is_numeral, numeral}
 use Rattle.numbers.specs.NumberLaws.{numeral_value}
 use Rattle.common_lines.specs.declared.CommonLine.TheVariants.{Other}
@@ -20,7 +19,6 @@ use Rattle.reply_lines.specs.ReplyLines.{reply_of_one, reply_words, reply_line}
 use Rattle.memory.specs.declared.Size.TheVariants.{Long}
 use Rattle.requests.specs.declared.Request.{Request}
 use Rattle.requests.specs.declared.Request.TheVariants.{Rdreg, Read}
-use Rattle.request_lines.specs.declared.Asked.TheVariants.{For}
 use Rattle.request_lines.specs.RequestLines.{size_behind, register_read, request_of_one}
 use Rattle.talk_lines.specs.declared.TalkLine.TheVariants.{Ask}
 use Rattle.talk_lines.specs.TalkLines.{either_line, talk_line}
@@ -33,7 +31,7 @@ pub record OneNumber (line name : List ℕ) (n : ℕ) : Type 0 where
   pub word : List ℕ
   pub kind : kind_of line ≡ Clear
   pub apart : words line ≡ name ∷ word ∷ []
-  pub number : numeral word ≡ Value n
+  pub number : numeral word ≡ Some n
 
 module _ {line name : List ℕ} {n : ℕ} (typed : OneNumber line name n) where
   -- it is neither `help` nor `quit`
@@ -47,7 +45,7 @@ module _ {line name : List ℕ} {n : ℕ} (typed : OneNumber line name n) where
   board_heard e f = rw (typed.kind, typed.apart, e, f, typed.number)
 
   -- and in `talk`, where it asks for a request
-  pub request_heard : (request : Request) → request_of_one name n ≡ For request → talk_line line ≡ Ask request
+  pub request_heard : (request : Request) → request_of_one name n ≡ Some request → talk_line line ≡ Ask request
   unfolding either_line
   request_heard request e = rw (typed.kind, typed.apart, typed.number, e)
 
@@ -97,7 +95,7 @@ numeral_no_gap word e = by_test (same (take 2 word) (ascii "0x")) refl (both_hol
     by_test true p d = prefix_no_gap word p d
     by_test false p d = digits_no_gap word d
 
-numeral_alone : (word : List ℕ) (n : ℕ) → numeral word ≡ Value n → words word ≡ word ∷ []
+numeral_alone : (word : List ℕ) (n : ℕ) → numeral word ≡ Some n → words word ≡ word ∷ []
 unfolding prefix_length
 numeral_alone [] n e = let z : ◌≡◌ {A = ℕ} 0 1 = cc (numeral_value [] n e).0 in absurd (omega arith)
 numeral_alone (byte ∷ word) n e = word_alone byte word (numeral_no_gap (byte ∷ word) (numeral_value (byte ∷ word) n e).0)
@@ -111,7 +109,7 @@ asks_on byte name more g s = by_test (is_gap byte) g s
     by_test false g s = s
 
 -- a name and a number behind a space
-pub one_number : (name word : List ℕ) (n : ℕ) → has_no_gap name ≡ true → is_silent name ≡ false → length name + length word ≤ 4095 → numeral word ≡ Value n
+pub one_number : (name word : List ℕ) (n : ℕ) → has_no_gap name ≡ true → is_silent name ≡ false → length name + length word ≤ 4095 → numeral word ≡ Some n
     → OneNumber (name ++ 32 ∷ word) name n
 unfolding kind_of is_gap
 one_number [] word n g s h e = let z : ◌≡◌ {A = ℕ} 0 1 = cc in absurd (omega arith)

@@ -1,5 +1,5 @@
 -- Laws: a fresh board is sound, a sound state is within the ranges of 12, and a packet keeps it sound; each reply is one of 01's list.
-use Rattle.std.specs.Prelude.{ℕ, zero, suc, ◌%◌, ◌^◌, ◌≤◌, ◌<◌, ◌≡◌, refl, Bool, true, false, cond, ◌||◌, eqb, set, replicate}
+use Rattle.std.specs.Prelude.{ℕ, zero, suc, ◌%◌, ◌^◌, ◌≤◌, ◌<◌, ◌≡◌, refl, Bool, true, false, cond, ◌||◌, eqb, set, replicate, Option}
 use Rattle.std.proofs.Common.{arith, ap, ◌∙◌, le-leb}
 use Rattle.std.proofs.lemmas.Nat.{and_le_r}
 use Rattle.laws.specs.TestLaws.{either}
@@ -14,7 +14,6 @@ use Rattle.command.specs.Reply.{complete}
 use Rattle.board.specs.declared.Board.{Board}
 use Rattle.board.specs.declared.Status.{Status}
 use Rattle.board.specs.declared.Debug.{Debug}
-use Rattle.board.specs.declared.Fault.{Fault}
 use Rattle.board.specs.declared.Phase.{Phase}
 use Rattle.board.specs.declared.Phase.TheVariants.{Rest, Due, Waiting, Upper}
 use Rattle.board.specs.declared.Place.{Place}
@@ -123,7 +122,7 @@ module _ (w : ℕ) (b : Board) (h : SoundBoard w b) where
       c
 
 -- [4] the number that is kept has no range of its own
-pub fault_keeps : {w : ℕ} {b : Board} (f : Fault) → SoundBoard w b → SoundBoard w (with_fault b f)
+pub fault_keeps : {w : ℕ} {b : Board} (f : Option ℕ) → SoundBoard w b → SoundBoard w (with_fault b f)
 fault_keeps f h = record { setting = h.setting; small = h.small; bstat = h.bstat; general = h.general; control = h.control; debug = h.debug }
 
 -- ---- the packet

@@ -1,12 +1,10 @@
 -- Laws: the work of a command keeps the board, the place and memory sound, and its reply is one of 01's list.
-use Rattle.std.specs.Prelude.{ℕ, ◌+◌, ◌-◌, ◌/◌, ◌%◌, ◌^◌, ◌≤◌, ◌<◌, ◌≡◌, refl, Bool, true, false, ◌||◌, List, eqb, leb, length, get_or}
+use Rattle.std.specs.Prelude.{ℕ, ◌+◌, ◌-◌, ◌/◌, ◌%◌, ◌^◌, ◌≤◌, ◌<◌, ◌≡◌, refl, Bool, true, false, ◌||◌, List, eqb, leb, length, get_or, Err, None, Ok, Some}
 use Rattle.std.proofs.Common.{arith, leb-true, le-leb}
 use Rattle.std.proofs.lemmas.Nat.{and_le_r}
 use Rattle.laws.specs.TestLaws.{either}
 use Rattle.memory.specs.declared.Size.{Size}
 use Rattle.memory.specs.declared.Size.TheVariants.{Byte, Word, Long}
-use Rattle.memory.specs.declared.Fetch.TheVariants as fetch
-use Rattle.memory.specs.declared.Reach.TheVariants.{Whole, Short}
 use Rattle.memory.specs.Memory.{aligned, present, first_missing, value_at, fetched, stored, reach}
 use Rattle.memory.specs.MemoryLaws.{store_keeps_bytes, store_keeps_length, value_within, limit}
 use Rattle.command.specs.declared.Command.{Command}
@@ -17,7 +15,6 @@ use Rattle.command.specs.Reply.{complete, not_ready, bus_error, illegal}
 use Rattle.board.specs.declared.Board.{Board}
 use Rattle.board.specs.declared.Place.{Place}
 use Rattle.csr.specs.Csr.{flag, csr_value}
-use Rattle.control.specs.declared.Shown.TheVariants.{Value, BusError}
 use Rattle.control.specs.Control.{control_index, control_listed, control_fetched}
 use Rattle.registers.specs.Registers.{shown, reached}
 use Rattle.access.specs.declared.Access.{Access}
@@ -43,13 +40,13 @@ past_within m Long a h e = let fits : a - a % 4 + 4 ≤ length m = leb-true _ _ 
 fetching_within : (m : List ℕ) (s : Size) (a : ℕ) → SoundMemory m → AccessWithin (fetching m s a)
 unfolding fetched
 fetching_within m s a h =
-    either (λ f. AccessWithin (fetched_access s (past s a) f)) (present m s a) (fetch.Value (value_at m s (aligned s a))) (fetch.Missing (first_missing m s a))
+    either (λ f. AccessWithin (fetched_access s (past s a) f)) (present m s a) (Ok (value_at m s (aligned s a))) (Err (first_missing m s a))
     (λ e. (value_within m s (aligned s a) h.bytes, past_within m s a h.limit e)) (λ e. tt)
 
 storing_within : (m : List ℕ) (s : Size) (a : ℕ) → SoundMemory m → AccessWithin (storing m s a)
 unfolding reach
 storing_within m s a h =
-    either (λ r. AccessWithin (stored_access (past s a) r)) (present m s a) Whole (Short (first_missing m s a)) (λ e. past_within m s a h.limit e) (λ e. tt)
+    either (λ r. AccessWithin (stored_access (past s a) r)) (present m s a) (Ok tt) (Err (first_missing m s a)) (λ e. past_within m s a h.limit e) (λ e. tt)
 
 access_within : (c : Command) (m : List ℕ) (pointer address : ℕ) → SoundMemory m → AccessWithin (access_of c m pointer address)
 access_within Unknown m p a h = tt
@@ -98,7 +95,7 @@ shown_within : (w : ℕ) (source : Source) (b : Board) (address : ℕ) → Sound
 unfolding control_fetched
 shown_within w (source.General n) b a h = h.general (n % 16)
 shown_within w source.Control b a h =
-    either (λ f. EndingWithin (shown_ending f)) (control_listed a) (Value (get_or b.registers.control (control_index a) 0)) BusError
+    either (λ f. EndingWithin (shown_ending f)) (control_listed a) (Some (get_or b.registers.control (control_index a) 0)) None
     (λ e. h.control (control_index a)) (λ e. tt)
 shown_within w source.Csr b a h = csr_within b
 

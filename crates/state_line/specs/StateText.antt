@@ -1,10 +1,8 @@
 -- The line `state` (the desk's language, `stand_in`): "`state name=value ..` of all the board holds".
-use Rattle.std.specs.Prelude.{ℕ, Bool, cond, List, [], ◌∷◌, ◌++◌, get_or}
+use Rattle.std.specs.Prelude.{ℕ, Bool, cond, List, [], ◌∷◌, ◌++◌, get_or, None, Option, Some}
 use Prim.Native.String.{String}
 use Rattle.board.specs.declared.Board.{Board}
 use Rattle.board.specs.declared.Debug.{Debug}
-use Rattle.board.specs.declared.Fault.{Fault}
-use Rattle.board.specs.declared.Fault.TheVariants.{NoFault, FaultAt}
 use Rattle.board.specs.declared.Place.{Place}
 use Rattle.board.specs.declared.Phase.{Phase}
 use Rattle.board.specs.declared.Phase.TheVariants.{Rest, Due, Waiting, Upper}
@@ -126,9 +124,9 @@ place_text p =
     ++ hex_text 5 p.next
 
 -- [4] "gains ` fault=ADDRESS` (eight hexadecimal digits) or ` fault=none` at its end"
-abbrev pub fault_text : Fault → List ℕ
-fault_text NoFault = ascii " fault=none"
-fault_text (FaultAt first) = ascii " fault=" ++ hex_text 8 first
+abbrev pub fault_text : Option ℕ → List ℕ
+fault_text None = ascii " fault=none"
+fault_text (Some first) = ascii " fault=" ++ hex_text 8 first
 
 unfoldable pub state_text : Board → Place → List ℕ
 state_text b p = ascii "state " ++ registers_text b ++ fields_text (sync_fields b.status.sync) ++ place_text p ++ fault_text b.fault

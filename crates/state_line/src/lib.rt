@@ -7,7 +7,7 @@ ghost use Rattle.state_line.specs.StateText.{bit_of, fields_text, status_fields,
 ghost use Rattle.state_line.specs.StateText.{registers_text, phase_text, chain_text, place_text, fault_text, state_text};
 ghost use Rattle.state_line.specs.StateTextMirror.{mark_text, next_after, form_text};
 
-use board::{Board, Chain, Debug, Fault, Phase, Place};
+use board::{Board, Chain, Debug, Phase, Place};
 
 fn one_if(flag: bool) -> u32
     ensures { result ≡ bit_of flag }
@@ -187,12 +187,12 @@ fn put_place(text: &mut [u8], at: usize, place: Place) -> usize
     text::put_hex(text, at, place.next, 5)
 }
 
-fn put_fault(text: &mut [u8], at: usize, fault: Fault) -> usize
+fn put_fault(text: &mut [u8], at: usize, fault: Option<u32>) -> usize
     ensures { Puts text.old at (fault_text fault) text.new result }
 {
     match fault {
-        Fault::NoFault => text::put_text(text, at, b" fault=none"),
-        Fault::FaultAt(first) => {
+        None => text::put_text(text, at, b" fault=none"),
+        Some(first) => {
             let at = text::put_text(text, at, b" fault=");
             text::put_hex(text, at, first, 8)
         }

@@ -1,9 +1,7 @@
 -- [4] Laws of the step: the number that the board keeps changes neither the place nor memory, and a NOP leaves it.
-use Rattle.std.specs.Prelude.{ℕ, ◌≡◌, refl}
+use Rattle.std.specs.Prelude.{ℕ, ◌≡◌, refl, None, Option}
 use Rattle.std.proofs.Common.{sym, ◌∙◌}
 use Rattle.std.proofs.Math.Path.{ap}
-use Rattle.board.specs.declared.Fault.{Fault}
-use Rattle.board.specs.declared.Fault.TheVariants.{NoFault}
 use Rattle.board.specs.declared.Phase.{Phase}
 use Rattle.board.specs.declared.Phase.TheVariants.{Rest, Due, Waiting, Upper}
 use Rattle.board.specs.Setters.{with_fault}
@@ -19,10 +17,10 @@ use Rattle.step.specs.Step.{left, plan_for, word_taken, stepped}
 use Rattle.laws.specs.TestLaws.{by_test}
 
 -- a state with another number
-abbrev pub faulted : State → Fault → State
+abbrev pub faulted : State → Option ℕ → State
 faulted s f = state_of (with_fault s.board f) s.place s.memory
 
-module _ (plan : Plan) (s : State) (f : Fault) where
+module _ (plan : Plan) (s : State) (f : Option ℕ) where
   pub same_place : (left plan (faulted s f)).place ≡ (left plan s).place
   same_place = by plan
     where
@@ -42,7 +40,7 @@ module _ (plan : Plan) (s : State) (f : Fault) where
       by (Work c address value) = refl
 
   -- and of the board nothing but itself
-  pub same_board : (g : Fault) → with_fault (left plan (faulted s f)).board g ≡ with_fault (left plan s).board g
+  pub same_board : (g : Option ℕ) → with_fault (left plan (faulted s f)).board g ≡ with_fault (left plan s).board g
   same_board g = by plan
     where
       by : (p : Plan) → with_fault (left p (faulted s f)).board g ≡ with_fault (left p s).board g
@@ -62,20 +60,20 @@ module _ (s : State) (word : ℕ) where
   step_memory = same_memory (plan_for s.board s.place word) s (word_taken s word).board.fault
 
   -- where none is kept none is cleared
-  pub none_cleared : s.board.fault ≡ NoFault → s ≡ word_taken s word
+  pub none_cleared : s.board.fault ≡ None → s ≡ word_taken s word
   none_cleared e = ap (faulted s) (e ∙ sym (by (taken_for s.place.phase)) ∙ ap (fault_taken (taken_for s.place.phase) word) (sym e))
     where
-      by : (input : Input) → fault_taken input word NoFault ≡ NoFault
+      by : (input : Input) → fault_taken input word None ≡ None
       by command_word = by_test (is_nop word) (λ t. rw t) (λ t. rw t)
       by operand = refl
       by ignored = refl
 
-  pub step_of_none : s.board.fault ≡ NoFault → stepped s word ≡ left (plan_for s.board s.place word) s
+  pub step_of_none : s.board.fault ≡ None → stepped s word ≡ left (plan_for s.board s.place word) s
   unfolding stepped
   step_of_none e = ap (left (plan_for s.board s.place word)) (sym (none_cleared e))
 
 -- "other than NOP": whatever a NOP is taken for
-pub nop_keeps : (phase : Phase) (f : Fault) → fault_taken (taken_for phase) 0 f ≡ f
+pub nop_keeps : (phase : Phase) (f : Option ℕ) → fault_taken (taken_for phase) 0 f ≡ f
 nop_keeps Rest f = refl
 nop_keeps (Due c left t) f = refl
 nop_keeps (Waiting c left address value) f = refl

@@ -7,7 +7,7 @@ ghost use Rattle.board.specs.State.{state_of};
 ghost use Rattle.step.specs.Step.{reply_now, chain_during, chain_in, rejected, holding, released, left, plan_for, stepped};
 ghost use Rattle.step.specs.StepMirror.{leaves_board, without_work};
 
-use board::{Board, Chain, Fault, Phase, Place};
+use board::{Board, Chain, Phase, Place};
 use command::{Base, Command, Source};
 use plan::Plan;
 
@@ -123,7 +123,7 @@ fn leaves_board(command: Command) -> bool
 }
 
 // The board with this fault for its own.
-pub fn carry_out(board: Board, fault: Fault, place: Place, memory: &mut [u8], plan: Plan) -> Next
+pub fn carry_out(board: Board, fault: Option<u32>, place: Place, memory: &mut [u8], plan: Plan) -> Next
     ensures { state_of result.board result.place memory.new ≡ left plan (state_of (with_fault board fault) place memory.old) }
 {
     match plan {

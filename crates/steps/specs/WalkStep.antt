@@ -1,19 +1,16 @@
 -- Recorded cycles (01), the walk: where it starts, and what one step from a cursor on hands out.
-use Rattle.std.specs.Prelude.{◌≡◌, ℕ, zero, suc, ◌+◌, ◌-◌, Bool, true, false, cond, List, eqb, length}
+use Rattle.std.specs.Prelude.{◌≡◌, ℕ, zero, suc, ◌+◌, ◌-◌, Bool, true, false, cond, List, eqb, length, Err, None, Ok, Option, Result, Some}
+use Rattle.trace.specs.declared.Refused.{Refused}
 use Rattle.grounds.specs.Grounds.{number}
 use Rattle.cycle.specs.declared.Carried.{Carried}
 use Rattle.cycle.specs.declared.Item.{Item}
 use Rattle.cycle.specs.Cycle.{pst, gives_own, nothing, after}
 use Rattle.cycle.specs.CycleItems.{of_value, of_cycle}
-use Rattle.trace.specs.declared.Listing.{Listing}
-use Rattle.trace.specs.declared.Listing.TheVariants.{Items, Refused}
 use Rattle.trace.specs.TraceReading.{told_listing, reading}
 use Rattle.steps.specs.declared.Cursor.{Cursor}
-use Rattle.steps.specs.declared.Handed.{Handed}
-use Rattle.steps.specs.declared.Handed.TheVariants.{Item as oneItem, End as atEnd, Refused as asRefused}
 use Rattle.steps.specs.declared.Step.{Step}
 
-abbrev pub cursor_at : Listing → ℕ → Carried → Bool → Cursor
+abbrev pub cursor_at : Result ℕ Refused → ℕ → Carried → Bool → Cursor
 cursor_at start i c past = record { start = start; cycle = i; carried = c; past = past }
 
 -- a start stands before the first cycle, with nothing under way and nothing handed out
@@ -27,11 +24,11 @@ abbrev pub value_next : ℕ → Bool → Bool
 value_next due past = cond past false (eqb due 1)
 
 abbrev pub handing : Cursor → Item → Step
-handing cursor x = record { cursor = cursor; handed = oneItem x }
+handing cursor x = record { cursor = cursor; handed = Ok (Some x) }
 
 -- "one item a step": the first item of n cycles from cycle i on, a value's before the cycle's own
-unfoldable pub step_from : List ℕ → Listing → ℕ → ℕ → Carried → Bool → Step
-step_from trace start zero i c past = record { cursor = cursor_at start i c past; handed = atEnd }
+unfoldable pub step_from : List ℕ → Result ℕ Refused → ℕ → ℕ → Carried → Bool → Step
+step_from trace start zero i c past = record { cursor = cursor_at start i c past; handed = Ok None }
 step_from trace start (suc n) i c past =
     cond (value_next c.due past) (handing (cursor_at start i c true) (of_value trace i c.marker))
     (cond (gives_own c.run (pst trace i)) (handing (cursor_at start (i + 1) (after c (pst trace i)) false) (of_cycle i (pst trace i)))
@@ -42,9 +39,9 @@ abbrev pub step_read : List ℕ → Cursor → Step
 step_read trace cursor = step_from trace cursor.start (length trace - cursor.cycle) cursor.cycle cursor.carried cursor.past
 
 -- a refused start is handed out at every step, and the walk stays
-abbrev pub step_by : List ℕ → Cursor → Listing → Step
-step_by trace cursor (Refused why cycle) = record { cursor = cursor; handed = asRefused why cycle }
-step_by trace cursor (Items n) = step_read trace cursor
+abbrev pub step_by : List ℕ → Cursor → Result ℕ Refused → Step
+step_by trace cursor (Err r) = record { cursor = cursor; handed = Err (record { ground = r.ground; cycle = r.cycle }) }
+step_by trace cursor (Ok n) = step_read trace cursor
 
 -- one step of the walk
 unfoldable pub step_of : List ℕ → Cursor → Step
@@ -56,7 +53,7 @@ pub data ToldStep : Type 0 where
   end : ToldStep
   refusal : (number cycle : ℕ) → ToldStep
 
-abbrev pub told_handed : Handed → ToldStep
-told_handed (oneItem x) = item x.cycle x.code x.value
-told_handed atEnd = end
-told_handed (asRefused why cycle) = refusal (number why) cycle
+abbrev pub told_handed : Result (Option Item) Refused → ToldStep
+told_handed (Ok (Some x)) = item x.cycle x.code x.value
+told_handed (Ok None) = end
+told_handed (Err r) = refusal (number r.ground) r.cycle

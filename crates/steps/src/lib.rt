@@ -5,32 +5,23 @@ ghost use Rattle.std.specs.Prelude.{◌≡◌, ◌+◌, ◌<◌, true, false};
 ghost use Rattle.cycle.specs.CycleItems.{of_value, of_cycle};
 ghost use Rattle.steps.specs.WalkStep.{cursor_at, value_next, handing, step_read, step_of, StartMeets};
 
+use trace::Refused;
 use cycle::{Carried, Item};
-use grounds::Ground;
-use trace::Listing;
 
 // Where a walk stands: how its start was judged, the next cycle and what it finds under way, and
 // whether that cycle's value is past.
 #[derive(Clone, Copy)]
 pub struct Cursor {
-    pub start: Listing,
+    pub start: Result<usize, Refused>,
     pub cycle: usize,
     pub carried: Carried,
     pub past: bool,
 }
 
-// What a step hands out. A walk whose start was refused hands out that refusal at every step.
-#[derive(Clone, Copy)]
-pub enum Handed {
-    Item(Item),
-    End,
-    Refused { ground: Ground, cycle: usize },
-}
-
 #[derive(Clone, Copy)]
 pub struct Step {
     pub cursor: Cursor,
-    pub handed: Handed,
+    pub handed: Result<Option<Item>, Refused>,
 }
 
 // Where a walk of a trace starts.
@@ -57,7 +48,7 @@ fn is_value_next(due: u8, past: bool) -> bool
 }
 
 // A value is handed out, and the walk stays at its cycle for the cycle's own item.
-fn hand_value(trace: &[u8], start: Listing, i: usize, carried: Carried) -> Step
+fn hand_value(trace: &[u8], start: Result<usize, Refused>, i: usize, carried: Carried) -> Step
     ensures { result ≡ handing (cursor_at start i carried true) (of_value trace.now i carried.marker) }
 {
     let value = cycle::read_value(trace, i, carried.marker);
@@ -74,12 +65,12 @@ fn hand_value(trace: &[u8], start: Listing, i: usize, carried: Carried) -> Step
     };
     Step {
         cursor,
-        handed: Handed::Item(item),
+        handed: Ok(Some(item)),
     }
 }
 
 // A cycle's own item is handed out, and the walk goes on to the next cycle.
-fn hand_own(start: Listing, i: usize, next: Carried, pst: u8) -> Step
+fn hand_own(start: Result<usize, Refused>, i: usize, next: Carried, pst: u8) -> Step
     requires { i < 18446744073709551615 }
     ensures { result ≡ handing (cursor_at start (i + 1) next false) (of_cycle i pst) }
 {
@@ -96,7 +87,7 @@ fn hand_own(start: Listing, i: usize, next: Carried, pst: u8) -> Step
     };
     Step {
         cursor,
-        handed: Handed::Item(item),
+        handed: Ok(Some(item)),
     }
 }
 
@@ -129,7 +120,7 @@ fn find_item(trace: &[u8], cursor: Cursor) -> Step
     };
     Step {
         cursor,
-        handed: Handed::End,
+        handed: Ok(None),
     }
 }
 
@@ -139,10 +130,10 @@ pub fn step_at(trace: &[u8], cursor: Cursor) -> Step
 {
     let start = cursor.start;
     match start {
-        Listing::Refused { ground, cycle } => Step {
+        Err(Refused { ground, cycle }) => Step {
             cursor,
-            handed: Handed::Refused { ground, cycle },
+            handed: Err(Refused { ground, cycle }),
         },
-        Listing::Items(_) => find_item(trace, cursor),
+        Ok(_) => find_item(trace, cursor),
     }
 }

@@ -1,11 +1,9 @@
 -- The page (02, [2]): what it says of a trace, the refusals, and what the index buffer holds.
-use Rattle.std.specs.Prelude.{◌≡◌, ℕ, List, ◌++◌, length, drop, replicate}
+use Rattle.std.specs.Prelude.{◌≡◌, ℕ, List, ◌++◌, length, drop, replicate, None, Err, Ok, Result}
+use Rattle.trace.specs.declared.Refused.{Refused}
 use Rattle.grounds.specs.declared.Ground.{Ground}
-use Rattle.trace.specs.declared.Listing.{Listing}
-use Rattle.trace.specs.declared.Listing.TheVariants.{Items, Refused}
 use Rattle.trace.specs.Items.{items}
 use Rattle.trace.specs.TraceReading.{Told, refusal, counted, told_listing, too_short, judged}
-use Rattle.rate.specs.declared.Rate.TheVariants.{NothingStarted}
 use Rattle.rate.specs.Rate.{rate_of}
 use Rattle.summary.specs.declared.page.Page.{Page}
 use Rattle.tally.specs.Tally.{count_of, first_of, last_of, starts_of, per_code}
@@ -15,7 +13,7 @@ use Rattle.index.specs.Index.{entry_count, index_words}
 abbrev pub page_of : List ℕ → ℕ → Page
 page_of trace n =
     record {
-      judged = Items n;
+      judged = Ok n;
       cycles = length trace;
       starts = starts_of (items trace);
       rate = rate_of (length trace) (starts_of (items trace));
@@ -28,19 +26,19 @@ page_of trace n =
 abbrev pub blank : Ground → ℕ → Page
 blank why cycle =
     record {
-      judged = Refused why cycle;
+      judged = Err (record { ground = why; cycle = cycle });
       cycles = 0;
       starts = 0;
-      rate = NothingStarted;
+      rate = None;
       counts = replicate 16 0;
       firsts = replicate 16 0;
       lasts = replicate 16 0;
     }
 
 -- the page, by how its trace was judged
-abbrev pub page_by : List ℕ → Listing → Page
-page_by trace (Items n) = page_of trace n
-page_by trace (Refused why cycle) = blank why cycle
+abbrev pub page_by : List ℕ → Result ℕ Refused → Page
+page_by trace (Ok n) = page_of trace n
+page_by trace (Err r) = blank r.ground r.cycle
 
 -- "Refusals: the reader's own, then 11 for the index buffer.", a word an entry; else the items are counted
 unfoldable pub page_verdict : List ℕ → ℕ → Told

@@ -1,5 +1,6 @@
 -- Laws of the pass over a trace: where its judging starts, what it has told where the trace can be read, and the index copied at the end.
-use Rattle.std.specs.Prelude.{◌≡◌, ℕ, ◌+◌, ◌-◌, ◌≤◌, ◌<◌, List, length, get_or, set}
+use Rattle.std.specs.Prelude.{◌≡◌, ℕ, ◌+◌, ◌-◌, ◌≤◌, ◌<◌, List, length, get_or, set, Ok, Result}
+use Rattle.trace.specs.declared.Refused.{Refused}
 use Rattle.std.proofs.Common.{ap, sym, ◌∙◌, zero-add, add-one, arith, lt-ltb, le-ltb}
 use Rattle.std.proofs.lemmas.List.Edits.{sets}
 use Rattle.std.proofs.Math.Seq.{paste, paste-suc}
@@ -8,8 +9,6 @@ use Rattle.grounds.specs.Grounds.{number}
 use Rattle.laws.specs.StoreLaws.{length_stored}
 use Rattle.cycle.specs.declared.Carried.{Carried}
 use Rattle.cycle.specs.Cycle.{nothing}
-use Rattle.trace.specs.declared.Listing.{Listing}
-use Rattle.trace.specs.declared.Listing.TheVariants.{Items}
 use Rattle.trace.specs.Items.{items}
 use Rattle.trace.specs.ItemLaws.{items_before_le}
 use Rattle.trace.specs.TraceReading.{refusal, counted, told_listing, too_long, earliest, ends_inside, judged_from, reading}
@@ -55,8 +54,8 @@ pub record PassRead (trace before : List ℕ) (n : ℕ) (counts firsts lasts ent
   -- the counts of the starts are small
   pub small : (get_or counts 1 0 ≤ 131072) × (get_or counts 4 0 ≤ 131072) × (get_or counts 5 0 ≤ 131072) × (get_or counts 7 0 ≤ 131072)
 
-pub pass_read : {trace before : List ℕ} {r : Listing} {counts firsts lasts entries : List ℕ}
-    → (told_listing r ≡ reading trace) × ReadTallied trace before r counts firsts lasts entries → {n : ℕ} → r ≡ Items n
+pub pass_read : {trace before : List ℕ} {r : Result ℕ Refused} {counts firsts lasts entries : List ℕ}
+    → (told_listing r ≡ reading trace) × ReadTallied trace before r counts firsts lasts entries → {n : ℕ} → r ≡ Ok n
     → PassRead trace before n counts firsts lasts entries
 pass_read {trace} {before} {r} {counts} {firsts} {lasts} {entries} t {n} e =
     record {
@@ -74,7 +73,7 @@ pass_read {trace} {before} {r} {counts} {firsts} {lasts} {entries} t {n} e =
     short : length trace ≤ 65536
     short = whole_short trace n reads
 
-    told : ReadTallied trace before (Items n) counts firsts lasts entries
+    told : ReadTallied trace before (Ok n) counts firsts lasts entries
     told = rw e at t.1
 
     small : (code : ℕ) → code < 16 → get_or counts code 0 ≤ 131072

@@ -1,10 +1,9 @@
 -- Items noted one after the other: what the functions that note them promise each other.
-use Rattle.std.specs.Prelude.{◌≡◌, ℕ, List, ◌++◌}
+use Rattle.std.specs.Prelude.{◌≡◌, ℕ, List, ◌++◌, Err, Ok, Result}
+use Rattle.trace.specs.declared.Refused.{Refused}
 use Rattle.std.proofs.lemmas.List.Edits.{sets}
 use Rattle.cycle.specs.declared.Carried.{Carried}
 use Rattle.cycle.specs.declared.Item.{Item}
-use Rattle.trace.specs.declared.Listing.{Listing}
-use Rattle.trace.specs.declared.Listing.TheVariants.{Items, Refused}
 use Rattle.cycle.specs.CycleItems.{value_item}
 use Rattle.trace.specs.Items.{items}
 use Rattle.tally.specs.Tally.{count_of, first_of, last_of, per_code}
@@ -26,6 +25,6 @@ NotesValue i carried counts firsts lasts counts' firsts' lasts' = (trace : List 
     → Notes (value_item trace i carried) counts firsts lasts counts' firsts' lasts'
 
 -- what a trace that can be read leaves: the tally of its items, and its index from the front of the entries on
-abbrev pub ReadTallied : List ℕ → List ℕ → Listing → List ℕ → List ℕ → List ℕ → List ℕ → Type 0
-ReadTallied trace before (Items n) counts firsts lasts entries = Tallied (items trace) counts firsts lasts × (entries ≡ sets before 0 (index_words trace))
-ReadTallied trace before (Refused why cycle) counts firsts lasts entries = Unit
+abbrev pub ReadTallied : List ℕ → List ℕ → Result ℕ Refused → List ℕ → List ℕ → List ℕ → List ℕ → Type 0
+ReadTallied trace before (Ok n) counts firsts lasts entries = Tallied (items trace) counts firsts lasts × (entries ≡ sets before 0 (index_words trace))
+ReadTallied trace before (Err r) counts firsts lasts entries = Unit

@@ -5,9 +5,9 @@ ghost use Rattle.trace.specs.TraceReading.{told_listing, reading};
 ghost use Rattle.index.specs.Entry.{entry_word};
 ghost use Rattle.summary.specs.TallyMirror.{Notes, NotesValue, ReadTallied, Tallied};
 
+use trace::Refused;
 use cycle::Carried;
 use grounds::Ground;
-use trace::Listing;
 
 fn first_cycle(count: u32, first: u32, cycle: u32) -> u32
     ensures { result ≡ cond (eqb count 0) cycle first }
@@ -91,16 +91,16 @@ pub fn tally_trace(
     firsts: &mut [u32; 16],
     lasts: &mut [u32; 16],
     entries: &mut [u32; 256],
-) -> Listing
+) -> Result<usize, Refused>
     requires { Tallied [] counts.old firsts.old lasts.old }
     ensures { (told_listing result ≡ reading trace.now)
         × ReadTallied trace.now entries.old result counts.new firsts.new lasts.new entries.new }
 {
     if 65536 < trace.len() {
-        return Listing::Refused {
+        return Err(Refused {
             ground: Ground::TraceTooLong,
             cycle: 0,
-        };
+        });
     }
     let mut carried = cycle::nothing_carried();
     let mut items = 0usize;
@@ -108,16 +108,16 @@ pub fn tally_trace(
     while i < trace.len() {
         let pst = trace[i] / 16;
         if cycle::is_reserved(pst) {
-            return Listing::Refused {
+            return Err(Refused {
                 ground: Ground::ReservedPst,
                 cycle: i,
-            };
+            });
         }
         if cycle::comes_too_soon(carried.due, pst) {
-            return Listing::Refused {
+            return Err(Refused {
                 ground: Ground::MarkerTooSoon,
                 cycle: i,
-            };
+            });
         }
         put_entry(entries, i, items, carried);
         note_value(counts, firsts, lasts, i, carried);
@@ -127,10 +127,10 @@ pub fn tally_trace(
         i += 1;
     }
     if carried.due == 0 {
-        return Listing::Items(items);
+        return Ok(items);
     }
-    Listing::Refused {
+    Err(Refused {
         ground: Ground::TraceCutShort,
         cycle: 0,
-    }
+    })
 }

@@ -3,19 +3,18 @@ ghost use Rattle.std.specs.Prelude.{◌≡◌, ◌≤◌, length};
 ghost use Rattle.std.proofs.Math.Seq.{paste};
 ghost use Rattle.summary.specs.Page.{blank, PageMeets};
 
+use trace::Refused;
 use crate::noting;
 use grounds::Ground;
-use rate::Rate;
-use trace::Listing;
 
 // How the trace was judged, with the number of its items; its cycles, instruction starts and rate; and of each code how many items,
 // the first cycle and the last (0 where it has none). All numbers are 0 where the trace was refused.
 #[derive(Clone, Copy)]
 pub struct Page {
-    pub judged: Listing,
+    pub judged: Result<usize, Refused>,
     pub cycles: u32,
     pub starts: u32,
-    pub rate: Rate,
+    pub rate: Option<f64>,
     pub counts: [u32; 16],
     pub firsts: [u32; 16],
     pub lasts: [u32; 16],
@@ -25,10 +24,10 @@ fn refuse(why: Ground, cycle: usize) -> Page
     ensures { result ≡ blank why cycle }
 {
     Page {
-        judged: Listing::Refused { ground: why, cycle },
+        judged: Err(Refused { ground: why, cycle }),
         cycles: 0,
         starts: 0,
-        rate: Rate::NothingStarted,
+        rate: None,
         counts: [0; 16],
         firsts: [0; 16],
         lasts: [0; 16],
@@ -58,8 +57,8 @@ pub fn make_page(trace: &[u8], index: &mut [u32]) -> Page
     let mut entries = [0u32; 256];
     let judged = noting::tally_trace(trace, &mut counts, &mut firsts, &mut lasts, &mut entries);
     match judged {
-        Listing::Refused { ground, cycle } => refuse(ground, cycle),
-        Listing::Items(items) => {
+        Err(Refused { ground, cycle }) => refuse(ground, cycle),
+        Ok(items) => {
             let needed = (trace.len() + 255) / 256;
             if index.len() < needed {
                 return refuse(Ground::BufferTooShort, 0);
@@ -69,7 +68,7 @@ pub fn make_page(trace: &[u8], index: &mut [u32]) -> Page
             let starts = counts[1] + counts[4] + counts[5] + counts[7];
             let rate = rate::rate_of(cycles, starts);
             Page {
-                judged: Listing::Items(items),
+                judged: Ok(items),
                 cycles,
                 starts,
                 rate,

@@ -1,10 +1,9 @@
 -- The desk's language: the lines of `talk`.
-use Rattle.std.specs.Prelude.{ℕ, List}
+use Rattle.std.specs.Prelude.{ℕ, List, None, Option, Some}
+use Rattle.requests.specs.declared.Request.{Request}
 use Rattle.words.specs.declared.LineKind.{LineKind}
 use Rattle.words.specs.declared.LineKind.TheVariants.{Silent, Clear, TooLong}
 use Rattle.words.specs.LineWords.{kind_of, words, last_end}
-use Rattle.request_lines.specs.declared.Asked.{Asked}
-use Rattle.request_lines.specs.declared.Asked.TheVariants.{For, NoRequest}
 use Rattle.board_lines.specs.declared.BoardLine.{BoardLine}
 use Rattle.board_lines.specs.declared.BoardLine.TheVariants.{Nothing, Make, Memory, Bytes, Packet, Event, EventWithAccess, Breakpoint, Peek, State, Unclear}
 use Rattle.talk_lines.specs.declared.TalkLine.{TalkLine}
@@ -27,9 +26,9 @@ without_packet State = State
 without_packet Unclear = Unclear
 
 -- "A REQUEST alone on its line", or else a line of `stand_in`
-abbrev pub asked_or : Asked → BoardLine → TalkLine
-asked_or (For request) line = Ask request
-asked_or NoRequest line = Board line
+abbrev pub asked_or : Option Request → BoardLine → TalkLine
+asked_or (Some request) line = Ask request
+asked_or None line = Board line
 
 abbrev pub either_at : LineKind → List ℕ → TalkLine
 either_at Silent line = Board Nothing

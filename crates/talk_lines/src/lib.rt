@@ -5,7 +5,6 @@ ghost use Rattle.std.specs.Prelude.{◌≡◌};
 ghost use Rattle.talk_lines.specs.TalkLines.{without_packet, asked_or, either_line, talk_line};
 
 use board_lines::BoardLine;
-use request_lines::Asked;
 use requests::Request;
 use words::LineKind;
 
@@ -34,12 +33,12 @@ fn leave_out_packet(line: BoardLine) -> BoardLine
     }
 }
 
-fn ask_or(asked: Asked, line: BoardLine) -> TalkLine
+fn ask_or(asked: Option<Request>, line: BoardLine) -> TalkLine
     ensures { result ≡ asked_or asked line }
 {
     match asked {
-        Asked::For(request) => TalkLine::Ask(request),
-        Asked::NoRequest => TalkLine::Board(line),
+        Some(request) => TalkLine::Ask(request),
+        None => TalkLine::Board(line),
     }
 }
 

@@ -1,9 +1,8 @@
 -- Laws of reading numbers back: what was written is read again, in hexadecimal at its width and without one, and in decimal.
-use Rattle.std.specs.Prelude.{ℕ, zero, suc, ◌+◌, ◌-◌, ◌*◌, ◌/◌, ◌%◌, ◌^◌, ◌≤◌, ◌<◌, ◌≡◌, refl, Bool, true, false, cond, List, [], ◌∷◌, ltb, leb, length}
+use Rattle.std.specs.Prelude.{ℕ, zero, suc, ◌+◌, ◌-◌, ◌*◌, ◌/◌, ◌%◌, ◌^◌, ◌≤◌, ◌<◌, ◌≡◌, refl, Bool, true, false, cond, List, [], ◌∷◌, ltb, leb, length, Some}
 use Rattle.std.proofs.Common.{◌∙◌, arith, mod-lt, mod-eq_of_lt, pow-suc, ltb-true, ltb-false, le-leb}
 use Rattle.std.proofs.Math.Nat.{div-div-eq-div-mul, div-add-mod, mod-one, pow-zero}
 use Rattle.numbers.specs.Numbers.{digit, all_digits, value_from, prefix_length, value, numeral}
-use Rattle.numbers.specs.declared.Numeral.TheVariants.{Value}
 use Rattle.numbers.specs.NumberLaws.{within, above}
 use Rattle.numbers.specs.NumeralLaws.{digits_have_no_prefix}
 use Rattle.text.specs.NumberText.{digit_text, digits_text, width_from, width, hex_text, number_text, decimal_text}
@@ -93,7 +92,7 @@ pub decimal_back : (n : ℕ) → n < 10 ^ 20 → decimal_value (decimal_text n) 
 decimal_back n h = digits_back decimal_worth 10 (omega arith) decimal_worth_lem (width 10 n) n (width_holds 10 n 19 1 h)
 
 -- and as a line's number is read, where it has a place of 32 bits
-pub hex_numeral : (k n : ℕ) → 0 < k → n < 16 ^ k → n ≤ 0xFFFFFFFF → numeral (hex_text k n) ≡ Value n
+pub hex_numeral : (k n : ℕ) → 0 < k → n < 16 ^ k → n ≤ 0xFFFFFFFF → numeral (hex_text k n) ≡ Some n
 unfolding numeral
 hex_numeral k n some h fits =
     let one : 1 ≤ length (hex_text k n) = omega (arith, digits_length 16 k n) in
@@ -108,7 +107,7 @@ width_some base n (suc more) k h = by_test (ltb n (base ^ k)) (width_some base n
     by_test true next = h
     by_test false next = next
 
-pub number_numeral : (n : ℕ) → n ≤ 0xFFFFFFFF → numeral (number_text n) ≡ Value n
+pub number_numeral : (n : ℕ) → n ≤ 0xFFFFFFFF → numeral (number_text n) ≡ Some n
 number_numeral n fits =
     let wide : n < 16 ^ 20 = omega arith in
     hex_numeral (width 16 n) n (width_some 16 n 19 1 (omega arith)) (width_holds 16 n 19 1 wide) fits

@@ -1,12 +1,8 @@
 -- Lines of the desk's language, computed from the definitions of their text.
-use Rattle.std.specs.Prelude.{◌≡◌, refl, true, false, [], ◌∷◌, ◌++◌}
+use Rattle.std.specs.Prelude.{◌≡◌, refl, true, false, [], ◌∷◌, ◌++◌, None, Ok, Some}
 use Rattle.grounds.specs.declared.Ground.TheVariants.{ReservedPst, StateOutOfRange}
 use Rattle.readings.specs.declared.Outcome.TheVariants.{Value, BusError}
-use Rattle.readings.specs.declared.Reading.TheVariants.{Ended, NotYet}
-use Rattle.port.specs.declared.Outcome.TheVariants.{Reply}
 use Rattle.halting.specs.declared.Halting.TheVariants.{NoHalt, Halts, Ignored}
-use Rattle.firing.specs.declared.Captured.TheVariants.{Nothing, Pc}
-use Rattle.board.specs.declared.Fault.TheVariants.{FaultAt}
 use Rattle.board.specs.Board.{fresh_board, fresh_place}
 use Rattle.csr.specs.Csr.{csr_value}
 use Rattle.text.specs.Text.{ascii}
@@ -21,22 +17,22 @@ pub record Shown : Type 0 where
   pub thirty_two_bits : number_text 0xFFFFFFFF ≡ ascii "FFFFFFFF"
   pub sixty_four_bits : decimal_text 0xFFFFFFFFFFFFFFFF ≡ ascii "18446744073709551615"
   pub zero_is_a_digit : number_text 0 ++ decimal_text 0 ≡ ascii "00"
-  pub a_reply : packet_text (Reply 0xBEEF) ≡ ascii "reply 0BEEF"
+  pub a_reply : packet_text (Ok 0xBEEF) ≡ ascii "reply 0BEEF"
   pub a_refusal : refused_text StateOutOfRange ≡ ascii "refused 12 at 0"
   pub refused_at_a_cycle : refused_at ReservedPst 4660 ≡ ascii "refused 8 at 4660"
-  pub an_event : seen_text (record { level = 2; halted = true; interrupt = false; captured = Pc 0xC0DE; halting = NoHalt })
+  pub an_event : seen_text (record { level = 2; halted = true; interrupt = false; captured = Some 0xC0DE; halting = NoHalt })
       ≡ ascii "event level 2 halted 1 interrupt 0 pc 0000C0DE"
-  pub no_pc : seen_text (record { level = 0; halted = false; interrupt = false; captured = Nothing; halting = NoHalt })
+  pub no_pc : seen_text (record { level = 0; halted = false; interrupt = false; captured = None; halting = NoHalt })
       ≡ ascii "event level 0 halted 0 interrupt 0 pc none"
-  pub halted_itself : seen_text (record { level = 0; halted = true; interrupt = false; captured = Pc 0xC0DE; halting = Halts })
+  pub halted_itself : seen_text (record { level = 0; halted = true; interrupt = false; captured = Some 0xC0DE; halting = Halts })
       ≡ ascii "event level 0 halted 1 interrupt 0 pc 0000C0DE ignored 0"
-  pub halted_nothing : seen_text (record { level = 0; halted = false; interrupt = false; captured = Nothing; halting = Ignored })
+  pub halted_nothing : seen_text (record { level = 0; halted = false; interrupt = false; captured = None; halting = Ignored })
       ≡ ascii "event level 0 halted 0 interrupt 0 pc none ignored 1"
   pub a_breakpoint : pressed_text (record { halted = true; interrupt = false }) ≡ ascii "breakpoint halted 1 interrupt 0"
   pub a_peek : peek_text (0 ∷ 0x7F ∷ 0xFF ∷ []) 1 3 ≡ ascii "peek 7FFF00"
   pub three_words : words_text (0x1980 ∷ 0 ∷ 4 ∷ []) ≡ ascii "words 01980 00000 00004"
-  pub a_value : reading_text (Ended (Value 0x04050607) 5) ≡ ascii "value 04050607 used 5"
-  pub not_yet : reading_text (NotYet 12) ≡ ascii "not-yet used 12"
+  pub a_value : reading_text (Ok (Some (Value 0x04050607), 5)) ≡ ascii "value 04050607 used 5"
+  pub not_yet : reading_text (Ok (None, 12)) ≡ ascii "not-yet used 12"
   pub a_bus_error : exchange_text BusError 6 ≡ ascii "bus-error packets 6"
   pub a_head : head_text 9 5 ≡ ascii "trace cycles=9 items=5"
   pub an_item : item_text 6 9 4660 ≡ ascii "6 9 4660"
@@ -46,7 +42,7 @@ pub record Shown : Type 0 where
       ++ ascii "a0=00000000 a1=00000000 a2=00000000 a3=00000000 a4=00000000 a5=00000000 a6=00000000 a7=00000000 "
       ++ ascii "cacr=00000000 acr0=00000000 acr1=00000000 vbr=00000000 macsr=00000000 mask=00000000 acc=00000000 sr=00000000 pc=00000000 "
       ++ ascii "rambar=00000000 sync=0 phase=rest chain=none pointer=00000 next=0FFFF fault=none"
-  pub at_address_zero : fault_text (FaultAt 0) ≡ ascii " fault=00000000"
+  pub at_address_zero : fault_text (Some 0) ≡ ascii " fault=00000000"
 
 pub shown : Shown
 unfolding digit_text digits_text width_from fresh_board fresh_place csr_value registers_text state_text

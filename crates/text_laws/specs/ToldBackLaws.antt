@@ -1,5 +1,6 @@
 -- Laws of the answers' text: what was told is read back from it.
-use Rattle.std.specs.Prelude.{ℕ, ◌+◌, ◌-◌, ◌*◌, ◌/◌, ◌%◌, ◌^◌, ◌<◌, ◌≡◌, Bool, cond, List, ◌++◌, eqb, ltb, get_or, take, drop}
+use Rattle.std.specs.Prelude.{ℕ, ◌+◌, ◌-◌, ◌*◌, ◌/◌, ◌%◌, ◌^◌, ◌<◌, ◌≡◌, Bool, cond, List, ◌++◌, eqb, ltb, get_or, take, drop, Err, None, Ok, Option, Result, Some}
+use Rattle.firing.specs.declared.Pressed.{Pressed}
 use Rattle.std.proofs.Math.Path.{refl}
 use Rattle.std.proofs.Common.{ap, arith, mod-lt, ne_eqb}
 use Rattle.std.proofs.Math.Bool.{true, false}
@@ -9,19 +10,9 @@ use Rattle.grounds.specs.declared.Ground.TheVariants.{ReservedPst, MarkerTooSoon
 use Rattle.grounds.specs.declared.Ground.TheVariants.{ImpossibleReply}
 use Rattle.readings.specs.declared.Outcome.{Outcome}
 use Rattle.readings.specs.declared.Outcome.TheVariants.{Value, Complete, BusError, Illegal}
-use Rattle.readings.specs.declared.Reading.{Reading}
-use Rattle.readings.specs.declared.Reading.TheVariants.{Ended, NotYet, Refused}
-use Rattle.port.specs.declared.Outcome.{Outcome as PacketOutcome}
-use Rattle.port.specs.declared.Outcome.TheVariants.{Reply, Refusing}
-use Rattle.firing.specs.declared.Captured.{Captured}
-use Rattle.firing.specs.declared.Captured.TheVariants.{Nothing, Pc}
 use Rattle.firing.specs.declared.Seen.{Seen}
 use Rattle.halting.specs.declared.Halting.{Halting}
 use Rattle.halting.specs.declared.Halting.TheVariants.{NoHalt, Halts, Ignored}
-use Rattle.bus.specs.declared.EventOutcome.{EventOutcome}
-use Rattle.bus.specs.declared.EventOutcome.TheVariants as event
-use Rattle.bus.specs.declared.BreakpointOutcome.{BreakpointOutcome}
-use Rattle.bus.specs.declared.BreakpointOutcome.TheVariants as breakpoint
 use Rattle.numbers.specs.Numbers.{value}
 use Rattle.text.specs.NumberText.{digit_text, digits_text, width_from}
 use Rattle.refusal_text.specs.RefusalText.{refused_at}
@@ -86,17 +77,17 @@ cycle_back RequestOutOfRange cycle h = decimal_back cycle h
 cycle_back ImpossibleReply cycle h = decimal_back cycle h
 
 -- the reply to a packet: both kinds begin with `re`
-abbrev pub packet_of : List ℕ → PacketOutcome
-packet_of text = cond (eqb (get_or text 2 0) 112) (Reply (value (drop 6 text))) (Refusing (refusal_of text))
+abbrev pub packet_of : List ℕ → Result ℕ Ground
+packet_of text = cond (eqb (get_or text 2 0) 112) (Ok (value (drop 6 text))) (Err (refusal_of text))
 
 -- five digits hold it
-abbrev pub PacketHeld : PacketOutcome → Type 0
-PacketHeld (Reply reply) = reply < 16 ^ 5
-PacketHeld (Refusing why) = Unit
+abbrev pub PacketHeld : Result ℕ Ground → Type 0
+PacketHeld (Ok reply) = reply < 16 ^ 5
+PacketHeld (Err why) = Unit
 
-pub packet_back : (o : PacketOutcome) → PacketHeld o → packet_of (packet_text o) ≡ o
-packet_back (Reply reply) held = ap Reply (hex_back 5 reply held)
-packet_back (Refusing why) held = ap Refusing (refusal_back why 0)
+pub packet_back : (o : Result ℕ Ground) → PacketHeld o → packet_of (packet_text o) ≡ o
+packet_back (Ok reply) held = ap Ok (hex_back 5 reply held)
+packet_back (Err why) held = ap Err (refusal_back why 0)
 
 -- what a request came to, by its first letter: `value`, `complete`, `bus-error`, `illegal`
 abbrev pub outcome_of : List ℕ → Outcome
@@ -119,25 +110,25 @@ OutcomeHeld BusError = Unit
 OutcomeHeld Illegal = Unit
 
 -- a reading: `not-yet` and `refused` are the others
-abbrev pub reading_of : List ℕ → Reading
+abbrev pub reading_of : List ℕ → Result (Option Outcome × ℕ) Ground
 reading_of text =
-    cond (eqb (get_or text 0 0) 114) (Refused (refusal_of text))
-    (cond (eqb (get_or text 0 0) 110) (NotYet (decimal_value (drop 13 text)))
-    (Ended (outcome_of text) (decimal_value (drop (number_at text + 6) text))))
+    cond (eqb (get_or text 0 0) 114) (Err (refusal_of text))
+    (cond (eqb (get_or text 0 0) 110) (Ok (None, decimal_value (drop 13 text)))
+    (Ok (Some (outcome_of text), decimal_value (drop (number_at text + 6) text))))
 
-abbrev pub ReadingHeld : Reading → Type 0
-ReadingHeld (Ended outcome used) = OutcomeHeld outcome × (used < 10 ^ 20)
-ReadingHeld (NotYet used) = used < 10 ^ 20
-ReadingHeld (Refused why) = Unit
+abbrev pub ReadingHeld : Result (Option Outcome × ℕ) Ground → Type 0
+ReadingHeld (Ok (Some outcome, used)) = OutcomeHeld outcome × (used < 10 ^ 20)
+ReadingHeld (Ok (None, used)) = used < 10 ^ 20
+ReadingHeld (Err why) = Unit
 
-pub reading_back : (r : Reading) → ReadingHeld r → reading_of (reading_text r) ≡ r
+pub reading_back : (r : Result (Option Outcome × ℕ) Ground) → ReadingHeld r → reading_of (reading_text r) ≡ r
 unfolding digits_text
-reading_back (Ended (Value v) used) held = rw (hex_back 8 v held.0, decimal_back used held.1)
-reading_back (Ended Complete used) held = rw (decimal_back used held.1)
-reading_back (Ended BusError used) held = rw (decimal_back used held.1)
-reading_back (Ended Illegal used) held = rw (decimal_back used held.1)
-reading_back (NotYet used) held = rw (decimal_back used held)
-reading_back (Refused why) held = ap Refused (refusal_back why 0)
+reading_back (Ok (Some (Value v), used)) held = rw (hex_back 8 v held.0, decimal_back used held.1)
+reading_back (Ok (Some Complete, used)) held = rw (decimal_back used held.1)
+reading_back (Ok (Some BusError, used)) held = rw (decimal_back used held.1)
+reading_back (Ok (Some Illegal, used)) held = rw (decimal_back used held.1)
+reading_back (Ok (None, used)) held = rw (decimal_back used held)
+reading_back (Err why) held = ap Err (refusal_back why 0)
 
 -- what an exchange came to, and its packets
 pub exchange_back : (o : Outcome) (packets : ℕ) → OutcomeHeld o → packets < 10 ^ 20
@@ -158,8 +149,8 @@ digit_no_n d h = by_test (ltb d 10)
     by_test false = ne_eqb (55 + d) 110 (λ e. omega arith)
 
 -- an event's answer: the PC is `none`, or eight digits
-abbrev pub captured_of : List ℕ → Captured
-captured_of text = cond (eqb (get_or text 4 0) 110) Nothing (Pc (value (take 8 (drop 4 text))))
+abbrev pub captured_of : List ℕ → Option ℕ
+captured_of text = cond (eqb (get_or text 4 0) 110) None (Some (value (take 8 (drop 4 text))))
 
 -- what stands behind it of HALT ([6]): nothing, or its tenth byte is the digit
 abbrev pub behind_captured : List ℕ → List ℕ
@@ -168,9 +159,9 @@ behind_captured text = drop (cond (eqb (get_or text 4 0) 110) 8 12) text
 abbrev pub halting_of : List ℕ → Halting
 halting_of text = cond (eqb (get_or text 9 0) 48) Halts (cond (eqb (get_or text 9 0) 49) Ignored NoHalt)
 
-abbrev pub CapturedHeld : Captured → Type 0
-CapturedHeld Nothing = Unit
-CapturedHeld (Pc pc) = pc < 16 ^ 8
+abbrev pub CapturedHeld : Option ℕ → Type 0
+CapturedHeld None = Unit
+CapturedHeld (Some pc) = pc < 16 ^ 8
 
 halting_back_lem : (halting : Halting) → halting_of (halting_text halting) ≡ halting
 halting_back_lem NoHalt = refl
@@ -178,15 +169,15 @@ halting_back_lem Halts = refl
 halting_back_lem Ignored = refl
 
 module _ (halting : Halting) where
-  captured_back_lem : (captured : Captured) → CapturedHeld captured → captured_of (captured_text captured ++ halting_text halting) ≡ captured
+  captured_back_lem : (captured : Option ℕ) → CapturedHeld captured → captured_of (captured_text captured ++ halting_text halting) ≡ captured
   unfolding digits_text
-  captured_back_lem Nothing held = refl
-  captured_back_lem (Pc pc) held = rw (digit_no_n (pc / 16 ^ 7 % 16) (mod-lt (pc / 16 ^ 7) (omega arith))) (ap Pc (hex_back 8 pc held))
+  captured_back_lem None held = refl
+  captured_back_lem (Some pc) held = rw (digit_no_n (pc / 16 ^ 7 % 16) (mod-lt (pc / 16 ^ 7) (omega arith))) (ap Some (hex_back 8 pc held))
 
-  behind_captured_lem : (captured : Captured) → halting_of (behind_captured (captured_text captured ++ halting_text halting)) ≡ halting
+  behind_captured_lem : (captured : Option ℕ) → halting_of (behind_captured (captured_text captured ++ halting_text halting)) ≡ halting
   unfolding digits_text
-  behind_captured_lem Nothing = halting_back_lem halting
-  behind_captured_lem (Pc pc) = rw (digit_no_n (pc / 16 ^ 7 % 16) (mod-lt (pc / 16 ^ 7) (omega arith))) (halting_back_lem halting)
+  behind_captured_lem None = halting_back_lem halting
+  behind_captured_lem (Some pc) = rw (digit_no_n (pc / 16 ^ 7 % 16) (mod-lt (pc / 16 ^ 7) (omega arith))) (halting_back_lem halting)
 
 abbrev pub flag_at : List ℕ → ℕ → Bool
 flag_at text at = eqb (get_or text at 0) 49
@@ -204,7 +195,7 @@ seen_of text =
 abbrev pub SeenHeld : Seen → Type 0
 SeenHeld seen = (seen.level < 16) × CapturedHeld seen.captured
 
-module _ (level : ℕ) (captured : Captured) (halting : Halting) (h : level < 16 ^ 1) (held : CapturedHeld captured) where
+module _ (level : ℕ) (captured : Option ℕ) (halting : Halting) (h : level < 16 ^ 1) (held : CapturedHeld captured) where
   abbrev flagged : Bool → Bool → Seen
   flagged halted interrupt = record { level = level; halted = halted; interrupt = interrupt; captured = captured; halting = halting }
 
@@ -218,30 +209,30 @@ module _ (level : ℕ) (captured : Captured) (halting : Halting) (h : level < 16
 pub seen_back : (seen : Seen) → SeenHeld seen → seen_of (seen_text seen) ≡ seen
 seen_back seen held = seen_by_flags seen.level seen.captured seen.halting held.0 held.1 seen.halted seen.interrupt
 
-abbrev pub event_of : List ℕ → EventOutcome
-event_of text = cond (eqb (get_or text 0 0) 114) (event.Refused (refusal_of text)) (event.Taken (seen_of text))
+abbrev pub event_of : List ℕ → Result Seen Ground
+event_of text = cond (eqb (get_or text 0 0) 114) (Err (refusal_of text)) (Ok (seen_of text))
 
-abbrev pub EventHeld : EventOutcome → Type 0
-EventHeld (event.Refused why) = Unit
-EventHeld (event.Taken seen) = SeenHeld seen
+abbrev pub EventHeld : Result Seen Ground → Type 0
+EventHeld (Err why) = Unit
+EventHeld (Ok seen) = SeenHeld seen
 
-pub event_back : (o : EventOutcome) → EventHeld o → event_of (event_text o) ≡ o
-event_back (event.Refused why) held = ap event.Refused (refusal_back why 0)
-event_back (event.Taken seen) held = ap event.Taken (seen_back seen held)
+pub event_back : (o : Result Seen Ground) → EventHeld o → event_of (event_text o) ≡ o
+event_back (Err why) held = ap Err (refusal_back why 0)
+event_back (Ok seen) held = ap Ok (seen_back seen held)
 
 -- the breakpoint input's answer
-abbrev pub breakpoint_of : List ℕ → BreakpointOutcome
+abbrev pub breakpoint_of : List ℕ → Result Pressed Ground
 breakpoint_of text =
-    cond (eqb (get_or text 0 0) 114) (breakpoint.Refused (refusal_of text))
-    (breakpoint.Taken (record { halted = flag_at text 18; interrupt = flag_at text 30 }))
+    cond (eqb (get_or text 0 0) 114) (Err (refusal_of text))
+    (Ok (record { halted = flag_at text 18; interrupt = flag_at text 30 }))
 
 pressed_by_flags : (halted interrupt : Bool)
-    → breakpoint_of (pressed_text (record { halted = halted; interrupt = interrupt })) ≡ breakpoint.Taken (record { halted = halted; interrupt = interrupt })
+    → breakpoint_of (pressed_text (record { halted = halted; interrupt = interrupt })) ≡ Ok (record { halted = halted; interrupt = interrupt })
 pressed_by_flags true true = refl
 pressed_by_flags true false = refl
 pressed_by_flags false true = refl
 pressed_by_flags false false = refl
 
-pub breakpoint_back : (o : BreakpointOutcome) → breakpoint_of (breakpoint_text o) ≡ o
-breakpoint_back (breakpoint.Refused why) = ap breakpoint.Refused (refusal_back why 0)
-breakpoint_back (breakpoint.Taken pressed) = pressed_by_flags pressed.halted pressed.interrupt
+pub breakpoint_back : (o : Result Pressed Ground) → breakpoint_of (breakpoint_text o) ≡ o
+breakpoint_back (Err why) = ap Err (refusal_back why 0)
+breakpoint_back (Ok pressed) = pressed_by_flags pressed.halted pressed.interrupt

@@ -1,12 +1,10 @@
 -- Different answers never have the same text: each is read back from it.
-use Rattle.std.specs.Prelude.{ℕ, ◌+◌, ◌^◌, ◌<◌, ◌≡◌, List, drop}
+use Rattle.std.specs.Prelude.{ℕ, ◌+◌, ◌^◌, ◌<◌, ◌≡◌, List, drop, Result, Option}
+use Rattle.firing.specs.declared.Pressed.{Pressed}
+use Rattle.firing.specs.declared.Seen.{Seen}
 use Rattle.std.proofs.Common.{ap, sym, ◌∙◌}
 use Rattle.grounds.specs.declared.Ground.{Ground}
 use Rattle.readings.specs.declared.Outcome.{Outcome}
-use Rattle.readings.specs.declared.Reading.{Reading}
-use Rattle.port.specs.declared.Outcome.{Outcome as PacketOutcome}
-use Rattle.bus.specs.declared.EventOutcome.{EventOutcome}
-use Rattle.bus.specs.declared.BreakpointOutcome.{BreakpointOutcome}
 use Rattle.refusal_text.specs.RefusalText.{refused_at}
 use Rattle.request_text.specs.RequestText.{reading_text, exchange_text}
 use Rattle.replies.specs.ReplyText.{packet_text, event_text, breakpoint_text}
@@ -23,17 +21,17 @@ refusal_unique g h c d e = (
 )
 
 -- the answers to a packet: `reply X` or `refused N at 0`
-pub packet_text_unique : (o q : PacketOutcome) → PacketHeld o → PacketHeld q → packet_text o ≡ packet_text q → o ≡ q
+pub packet_text_unique : (o q : Result ℕ Ground) → PacketHeld o → PacketHeld q → packet_text o ≡ packet_text q → o ≡ q
 packet_text_unique o q h k e = sym (packet_back o h) ∙ ap packet_of e ∙ packet_back q k
 
-pub event_text_unique : (o q : EventOutcome) → EventHeld o → EventHeld q → event_text o ≡ event_text q → o ≡ q
+pub event_text_unique : (o q : Result Seen Ground) → EventHeld o → EventHeld q → event_text o ≡ event_text q → o ≡ q
 event_text_unique o q h k e = sym (event_back o h) ∙ ap event_of e ∙ event_back q k
 
-pub breakpoint_text_unique : (o q : BreakpointOutcome) → breakpoint_text o ≡ breakpoint_text q → o ≡ q
+pub breakpoint_text_unique : (o q : Result Pressed Ground) → breakpoint_text o ≡ breakpoint_text q → o ≡ q
 breakpoint_text_unique o q e = sym (breakpoint_back o) ∙ ap breakpoint_of e ∙ breakpoint_back q
 
 -- what the pod read: `value V used N`, .., `refused N at 0`
-pub reading_text_unique : (r s : Reading) → ReadingHeld r → ReadingHeld s → reading_text r ≡ reading_text s → r ≡ s
+pub reading_text_unique : (r s : Result (Option Outcome × ℕ) Ground) → ReadingHeld r → ReadingHeld s → reading_text r ≡ reading_text s → r ≡ s
 reading_text_unique r s h k e = sym (reading_back r h) ∙ ap reading_of e ∙ reading_back s k
 
 -- what talk says of a request: `value V packets N`, ..

@@ -1,11 +1,10 @@
 -- Refusals 7 to 11 (01): how a trace is judged, as a whole or from one of its cycles on.
-use Rattle.std.specs.Prelude.{ℕ, zero, suc, ◌+◌, ◌-◌, cond, List, ltb, eqb, length}
+use Rattle.std.specs.Prelude.{ℕ, zero, suc, ◌+◌, ◌-◌, cond, List, ltb, eqb, length, Err, Ok, Result}
+use Rattle.trace.specs.declared.Refused.{Refused}
 use Rattle.grounds.specs.declared.Ground.TheVariants.{TraceTooLong, ReservedPst, MarkerTooSoon, TraceCutShort, BufferTooShort}
 use Rattle.grounds.specs.Grounds.{number}
 use Rattle.cycle.specs.declared.Carried.{Carried}
 use Rattle.cycle.specs.Cycle.{pst, reserved, too_soon, nothing, after}
-use Rattle.trace.specs.declared.Listing.{Listing}
-use Rattle.trace.specs.declared.Listing.TheVariants.{Items, Refused}
 use Rattle.trace.specs.Items.{items, items_to_end}
 
 -- "A refusal returns its number, with the cycle for 8 and 9 and zero elsewhere"; else the items are counted
@@ -14,9 +13,9 @@ pub data Told : Type 0 where
   counted : (items : ℕ) → Told
 
 -- 01's number and values for each case of the answer
-abbrev pub told_listing : Listing → Told
-told_listing (Items n) = counted n
-told_listing (Refused why cycle) = refusal (number why) cycle
+abbrev pub told_listing : Result ℕ Refused → Told
+told_listing (Ok n) = counted n
+told_listing (Err r) = refusal (number r.ground) r.cycle
 
 -- 7: "a trace longer than 65,536 cycles"
 unfoldable pub too_long : List ℕ → Told → Told

@@ -7,23 +7,23 @@ ghost use Rattle.trace.specs.TraceReading.{told_listing, reading, reading_from};
 use cycle::Carried;
 use grounds::Ground;
 
-// How many items a trace has, or why it is refused and at which cycle (0 where the ground has none).
+// Why a trace is refused, and at which cycle (0 where the ground has none).
 #[derive(Clone, Copy)]
-pub enum Listing {
-    Items(usize),
-    Refused { ground: Ground, cycle: usize },
+pub struct Refused {
+    pub ground: Ground,
+    pub cycle: usize,
 }
 
 // Whether a trace can be read from a cycle on, which finds so much under way: the number of its items
 // from there on, or the refusal, a buffer aside. No earlier cycle is judged.
-pub fn judge_from(trace: &[u8], from: usize, found: Carried) -> Listing
+pub fn judge_from(trace: &[u8], from: usize, found: Carried) -> Result<usize, Refused>
     ensures { told_listing result ≡ reading_from trace.now from found }
 {
     if 65536 < trace.len() {
-        return Listing::Refused {
+        return Err(Refused {
             ground: Ground::TraceTooLong,
             cycle: 0,
-        };
+        });
     }
     let mut carried = found;
     let mut items = 0usize;
@@ -31,32 +31,32 @@ pub fn judge_from(trace: &[u8], from: usize, found: Carried) -> Listing
     while i < trace.len() {
         let pst = trace[i] / 16;
         if cycle::is_reserved(pst) {
-            return Listing::Refused {
+            return Err(Refused {
                 ground: Ground::ReservedPst,
                 cycle: i,
-            };
+            });
         }
         if cycle::comes_too_soon(carried.due, pst) {
-            return Listing::Refused {
+            return Err(Refused {
                 ground: Ground::MarkerTooSoon,
                 cycle: i,
-            };
+            });
         }
         items += cycle::count_items(carried, pst);
         carried = cycle::after_cycle(carried, pst);
         i += 1;
     }
     if carried.due == 0 {
-        return Listing::Items(items);
+        return Ok(items);
     }
-    Listing::Refused {
+    Err(Refused {
         ground: Ground::TraceCutShort,
         cycle: 0,
-    }
+    })
 }
 
 // Whether a trace can be read as a whole.
-pub fn judge_trace(trace: &[u8]) -> Listing
+pub fn judge_trace(trace: &[u8]) -> Result<usize, Refused>
     ensures { told_listing result ≡ reading trace.now }
 {
     judge_from(trace, 0, cycle::nothing_carried())

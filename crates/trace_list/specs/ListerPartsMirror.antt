@@ -1,10 +1,9 @@
 -- The parts in which the lister's lines are written out: the head by itself, then items until half of the text is used.
-use Rattle.std.specs.Prelude.{ℕ, ◌*◌, ◌/◌, ◌≡◌, cond, List, [], ◌∷◌, ltb, length, get_or, take, replicate}
+use Rattle.std.specs.Prelude.{ℕ, ◌*◌, ◌/◌, ◌≡◌, cond, List, [], ◌∷◌, ltb, length, get_or, take, replicate, Err, Ok, Result}
+use Rattle.trace.specs.declared.Refused.{Refused}
 use Rattle.cycle.specs.declared.Item.{Item}
 use Rattle.trace.specs.Items.{items, items_to_end, words}
 use Rattle.trace.specs.TraceReading.{Told, refusal, counted, told_listing, reading}
-use Rattle.trace.specs.declared.Listing.{Listing}
-use Rattle.trace.specs.declared.Listing.TheVariants.{Items, Refused}
 use Rattle.listing.specs.Listing.{listing_from}
 use Rattle.index.specs.declared.Entry.{Entry}
 use Rattle.index.specs.Entry.{of_word}
@@ -17,9 +16,9 @@ use Rattle.trace_list.specs.declared.asked.Asked.TheVariants.{Whole, From, Uncle
 use Rattle.trace_list.specs.ListerLines.{item_lines, refused_line, head_line, unclear_line}
 
 -- a start that was not refused
-abbrev pub GoodStart : Listing → Type 0
-GoodStart (Items n) = Unit
-GoodStart (Refused why cycle) = ⊥
+abbrev pub GoodStart : Result ℕ Refused → Type 0
+GoodStart (Ok n) = Unit
+GoodStart (Err r) = ⊥
 
 -- a trace's, of some of its items
 abbrev pub parts_by : ℕ → ℕ → List Item → Told → List (List ℕ)
@@ -72,5 +71,5 @@ abbrev pub listed_parts_by : ℕ → ℕ → List ℕ → Told → List (List �
 listed_parts_by room cycles left (refusal number cycle) = refused_line number cycle ∷ []
 listed_parts_by room cycles left (counted n) = head_line cycles n ∷ cond (ltb (length left / 2) n) [] (parts room (item_lines (take (2 * n) left)))
 
-abbrev pub listed_parts : ℕ → ℕ → List ℕ → Listing → List (List ℕ)
+abbrev pub listed_parts : ℕ → ℕ → List ℕ → Result ℕ Refused → List (List ℕ)
 listed_parts room cycles left listed = listed_parts_by room cycles left (told_listing listed)

@@ -1,5 +1,6 @@
 -- Laws of a listing from a cycle on: what is shown of an entry, and that the index's own entry shows the rest of the trace.
-use Rattle.std.specs.Prelude.{ℕ, ◌-◌, ◌*◌, ◌/◌, ◌%◌, ◌≤◌, ◌<◌, ◌≡◌, refl, Bool, true, false, cond, List, ◌++◌, ltb, length, get_or, take, drop}
+use Rattle.std.specs.Prelude.{ℕ, ◌-◌, ◌*◌, ◌/◌, ◌%◌, ◌≤◌, ◌<◌, ◌≡◌, refl, Bool, true, false, cond, List, ◌++◌, ltb, length, get_or, take, drop, Err, Ok, Result}
+use Rattle.trace.specs.declared.Refused.{Refused}
 use Rattle.std.proofs.Common.{ap, sym, ◌∙◌, arith, length-append, take_at, lt-ltb, le-ltb, ltb-true, ltb-false}
 use Rattle.std.proofs.Math.ListN.{get_or-append}
 use Rattle.cycle.specs.declared.Item.{Item}
@@ -7,8 +8,6 @@ use Rattle.cycle.specs.Cycle.{nothing, carried_into}
 use Rattle.grounds.specs.declared.Ground.{Ground}
 use Rattle.grounds.specs.declared.Ground.TheVariants.{BufferTooShort}
 use Rattle.grounds.specs.Grounds.{number}
-use Rattle.trace.specs.declared.Listing.{Listing}
-use Rattle.trace.specs.declared.Listing.TheVariants.{Items, Refused}
 use Rattle.trace.specs.Items.{items, items_to_end, words}
 use Rattle.trace.specs.ItemLaws.{length_words}
 use Rattle.trace.specs.TraceReading.{Told, refusal, counted, told_listing, too_short, reading}
@@ -52,7 +51,7 @@ from_counts trace e space n q = by_room (ltb space (2 * k)) refl (passed_so trac
         (sym same, omega arith)
 
 -- what is shown of a listing from an entry
-pub entry_shown : (room : ℕ) (trace : List ℕ) (e : Entry) (before after : List ℕ) (r : Listing) → EntryMeets trace e before r after
+pub entry_shown : (room : ℕ) (trace : List ℕ) (e : Entry) (before after : List ℕ) (r : Result ℕ Refused) → EntryMeets trace e before r after
     → listed_parts room (length trace) after r ≡ entry_parts room trace e (length before)
 entry_shown room trace e before after r m =
     ap (listed_parts_by room (length trace) after) m.answer ∙ by_told (listing_from trace e.cycle e.carried (length before)) refl
@@ -82,7 +81,7 @@ module _ (before trace index : List ℕ) (from space : ℕ) where
         → after ≡ laid before (from_parts (length before) trace from index space)
     from_unlisted h f = f ∙ rw (lt-ltb from (length trace) within, le-ltb (from / 256) (length index) h)
 
-    pub from_entry : {after words₀ left : List ℕ} {r : Listing} → from / 256 < length index → length words₀ ≡ space
+    pub from_entry : {after words₀ left : List ℕ} {r : Result ℕ Refused} → from / 256 < length index → length words₀ ≡ space
         → EntryMeets trace (of_word from (get_or index (from / 256) 0)) words₀ r left
         → after ≡ laid before (listed_parts (length before) (length trace) left r)
         → after ≡ laid before (from_parts (length before) trace from index space)
@@ -99,11 +98,11 @@ module _ (before trace : List ℕ) (from space : ℕ) {page : Page} {index : Lis
       ap (λ (t : Told). laid before (rest_parts_by (length before) trace from (index_after trace no_index (page_verdict trace (length no_index))) space t))
       (sym e ∙ met.answer)
 
-  pub rest_refused : {after : List ℕ} (why : Ground) (cycle : ℕ) → page.judged ≡ Refused why cycle
+  pub rest_refused : {after : List ℕ} (why : Ground) (cycle : ℕ) → page.judged ≡ Err (record { ground = why; cycle = cycle })
       → after ≡ written before 0 (refused_line (number why) cycle) → after ≡ laid before (rest_parts (length before) trace from space)
   rest_refused why cycle e f = f ∙ by_page (refusal (number why) cycle) (ap told_listing e)
 
-  pub rest_listed : {after : List ℕ} (n : ℕ) → page.judged ≡ Items n → after ≡ laid before (from_parts (length before) trace from index space)
+  pub rest_listed : {after : List ℕ} (n : ℕ) → page.judged ≡ Ok n → after ≡ laid before (from_parts (length before) trace from index space)
       → after ≡ laid before (rest_parts (length before) trace from space)
   rest_listed n e f =
       f ∙ ap (λ (l : List ℕ). laid before (from_parts (length before) trace from l space)) met.words ∙ by_page (counted n) (ap told_listing e)

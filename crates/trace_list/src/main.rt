@@ -17,6 +17,7 @@ ghost use Rattle.trace_list.specs.ListerPartsMirror.{GoodStart, whole_parts, fro
 ghost use Rattle.trace_list.specs.Asked.{AskedMeets};
 ghost use Rattle.trace_list.specs.declared.asked.Asked.TheVariants.{Whole, From};
 
+use trace::Refused;
 use asked::Asked;
 use console::arguments;
 use cycle::Item;
@@ -24,10 +25,9 @@ use grounds::Ground;
 use refusal_text::{put_refusal_at, put_unclear};
 use std::env::Env;
 use std::io::{Stdin, Stdout};
-use steps::{Cursor, Handed};
+use steps::Cursor;
 use summary::page;
 use text::listing::{put_head, put_item};
-use trace::Listing;
 
 // An item's first word.
 fn word_of(item: Item) -> u32
@@ -73,7 +73,7 @@ fn write_walk(output: Stdout, trace: &[u8], start: Cursor, text: &mut [u8])
     loop {
         let step = walk::next_item(trace, cursor);
         let handed = step.handed;
-        let Handed::Item(item) = handed else {
+        let Ok(Some(item)) = handed else {
             break;
         };
         at = add_item(output, text, at, word_of(item), item.value);
@@ -97,13 +97,13 @@ fn say_head(output: Stdout, cycles: usize, items: usize, text: &mut [u8])
 }
 
 // What a listing answered, and the items whose words it left.
-fn write_listing(output: Stdout, listed: Listing, cycles: usize, words: &[u32], text: &mut [u8])
+fn write_listing(output: Stdout, listed: Result<usize, Refused>, cycles: usize, words: &[u32], text: &mut [u8])
     ensures { text.new
         ≡ laid text.old (listed_parts (length text.old) cycles words.now listed) }
 {
     match listed {
-        Listing::Refused { ground, cycle } => say_refusal(output, ground, cycle, text),
-        Listing::Items(items) => {
+        Err(Refused { ground, cycle }) => say_refusal(output, ground, cycle, text),
+        Ok(items) => {
             say_head(output, cycles, items, text);
             let room = words.len() / 2;
             if items <= room {
@@ -122,8 +122,8 @@ fn write_whole(output: Stdout, trace: &[u8], text: &mut [u8])
     let start = walk::start_cursor(trace);
     let judged = start.start;
     match judged {
-        Listing::Refused { ground, cycle } => say_refusal(output, ground, cycle, text),
-        Listing::Items(items) => {
+        Err(Refused { ground, cycle }) => say_refusal(output, ground, cycle, text),
+        Ok(items) => {
             say_head(output, trace.len(), items, text);
             write_walk(output, trace, start, text);
         }
@@ -172,8 +172,8 @@ fn list_from(output: Stdout, trace: &[u8], from: usize, words: &mut [u32], text:
     let page = page::make_page(trace, &mut index);
     let judged = page.judged;
     match judged {
-        Listing::Refused { ground, cycle } => say_refusal(output, ground, cycle, text),
-        Listing::Items(_) => write_from(output, trace, from, &index, words, text),
+        Err(Refused { ground, cycle }) => say_refusal(output, ground, cycle, text),
+        Ok(_) => write_from(output, trace, from, &index, words, text),
     }
 }
 

@@ -4,10 +4,9 @@
 ghost use Rattle.std.specs.Prelude.{◌≡◌};
 ghost use Rattle.trigger.specs.Fired.{fires, fired_level};
 
+use halting::Privilege;
 use board::Debug;
-use comparators::Level;
-use groups::Bus;
-use halting::Mark;
+use comparators::{BusAccess, Level};
 
 pub mod levels;
 
@@ -15,8 +14,8 @@ pub mod levels;
 #[derive(Clone, Copy)]
 pub struct Event {
     pub pc: u32,
-    pub bus: Bus,
-    pub mark: Mark,
+    pub bus: Option<BusAccess>,
+    pub mark: Option<Privilege>,
 }
 
 fn is_fired(level: Level, debug: Debug, event: Event) -> bool

@@ -1,13 +1,12 @@
 -- Laws of putting back: word by word, that the length stays, and how both are compared once they are mended again.
-use Rattle.std.specs.Prelude.{◌≡◌, refl, ℕ, ◌+◌, ◌≤◌, ◌<◌, Bool, false, cond, ◌&&◌, List, [], ◌∷◌, ◌++◌, length, get_or, take, drop}
+use Rattle.std.specs.Prelude.{◌≡◌, refl, ℕ, ◌+◌, ◌≤◌, ◌<◌, Bool, false, cond, ◌&&◌, List, [], ◌∷◌, ◌++◌, length, get_or, take, drop, Ok, Result}
+use Rattle.grounds.specs.declared.Ground.{Ground}
 use Rattle.std.proofs.Common.{ap, sym, ◌∙◌, length-set, drop_of_length-le, take_at, le-leb}
 use Rattle.std.proofs.lemmas.Bool.{lt-leb}
 use Rattle.laws.specs.StoreLaws.{sets_front}
 use Rattle.laws.specs.PlaceLaws.{from_here}
 use Rattle.text.specs.Text.{Puts}
 use Rattle.same.specs.SameList.{same}
-use Rattle.mending.specs.declared.Mending.{Mending}
-use Rattle.mending.specs.declared.Mending.TheVariants.{Changed}
 use Rattle.mending.specs.Mending.{mended, changes}
 use Rattle.mending.specs.MendingAnswerLaws.{MendedInto}
 use Rattle.unmending.specs.Unmending.{put_word, put_back, is_its_list, UnmendingMeets}
@@ -62,9 +61,9 @@ pub unmending_meets : (trace words after : List ℕ) (r : Bool) → r ≡ is_its
 unmending_meets trace words after r e f = record { answer = e; cycles = f ∙ ap (λ (t : Bool). cond t (put_back trace words) trace) e }
 
 -- what was mended into buffers that are long enough, compared with a trace and a list
-pub changed_count : {recorded bytes words : List ℕ} {r : Mending} {n : ℕ} → MendedInto recorded r bytes words → r ≡ Changed n → n ≡ length (changes recorded)
+pub changed_count : {recorded bytes words : List ℕ} {r : Result ℕ Ground} {n : ℕ} → MendedInto recorded r bytes words → r ≡ Ok n → n ≡ length (changes recorded)
 changed_count m e = let same_answer = sym e ∙ m.answer in cc
 
-pub both_compared : {recorded bytes words : List ℕ} {r : Mending} {n : ℕ} (trace list : List ℕ) → MendedInto recorded r bytes words → r ≡ Changed n
+pub both_compared : {recorded bytes words : List ℕ} {r : Result ℕ Ground} {n : ℕ} (trace list : List ℕ) → MendedInto recorded r bytes words → r ≡ Ok n
     → (same (take (length recorded) bytes) trace && same (take n words) list) ≡ (same (mended recorded) trace && same (changes recorded) list)
 both_compared trace list m e = rw (changed_count m e, m.cycles, m.list)

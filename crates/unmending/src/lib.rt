@@ -6,7 +6,6 @@ ghost use Rattle.same.specs.SameList.{same};
 ghost use Rattle.mending.specs.Mending.{mended, changes};
 ghost use Rattle.unmending.specs.Unmending.{put_word, put_back, UnmendingMeets};
 
-use mending::Mending;
 
 fn put_word(trace: &mut [u8], word: u32)
     ensures { trace.new ≡ put_word trace.old word }
@@ -38,8 +37,8 @@ fn gives_both(recorded: &[u8], trace: &[u8], list: &[u32]) -> bool
     let n = recorded.len();
     let answer = mending::mend_trace(recorded, &mut again, &mut words);
     match answer {
-        Mending::Refused(_) => false,
-        Mending::Changed(changed) => {
+        Err(_) => false,
+        Ok(changed) => {
             if same::is_same(&again[..n], trace) {
                 return same::is_same_list(&words[..changed], list);
             }

@@ -1,5 +1,6 @@
 -- Laws of a visit's reasons: where a reply has a ground (01), the visit ends for a reason with that ground's number.
-use Rattle.std.specs.Prelude.{ℕ, suc, ◌+◌, ◌*◌, ◌<◌, ◌≡◌, true, false, cond, List, [], ◌∷◌, eqb, leb}
+use Rattle.std.specs.Prelude.{ℕ, suc, ◌+◌, ◌*◌, ◌<◌, ◌≡◌, true, false, cond, List, [], ◌∷◌, eqb, leb, None, Option, Some}
+use Rattle.memory.specs.declared.Size.{Size}
 use Rattle.std.proofs.Common.{arith, sym, ap, ◌∙◌, ne_eqb}
 use Rattle.std.proofs.Math.Path.{refl}
 use Rattle.std.proofs.lemmas.Bool.{lt-leb}
@@ -9,8 +10,6 @@ use Rattle.command.specs.Reply.{complete, not_ready, bus_error, illegal}
 use Rattle.grounds.specs.declared.Ground.{Ground}
 use Rattle.grounds.specs.declared.Ground.TheVariants as why
 use Rattle.grounds.specs.Grounds.{number}
-use Rattle.requests.specs.declared.ResultKind.{ResultKind}
-use Rattle.requests.specs.declared.ResultKind.TheVariants.{NoResult, OfSize}
 use Rattle.requests.specs.Request.{kind_of}
 use Rattle.readings.specs.declared.Outcome.TheVariants as outcome
 use Rattle.readings.specs.declared.Reader.{Reader}
@@ -33,11 +32,11 @@ module _ (g : Ground) where
   abbrev Is14 : Reader → Type 0
   Is14 reader = reader ≡ Bad g → g ≡ why.ImpossibleReply
 
-  data_14 : (kind : ResultKind) (reply : ℕ) → Is14 (data_reply kind reply)
-  data_14 NoResult reply = either Is14 (eqb reply complete) (Closed outcome.Complete) (Bad why.ImpossibleReply) (λ t e. cc) (λ t e. cc)
-  data_14 (OfSize Byte) reply = either Is14 (leb reply 0xFF) (Closed (outcome.Value reply)) (Bad why.ImpossibleReply) (λ t e. cc) (λ t e. cc)
-  data_14 (OfSize Word) reply = λ e. cc
-  data_14 (OfSize Long) reply = λ e. cc
+  data_14 : (kind : Option Size) (reply : ℕ) → Is14 (data_reply kind reply)
+  data_14 None reply = either Is14 (eqb reply complete) (Closed outcome.Complete) (Bad why.ImpossibleReply) (λ t e. cc) (λ t e. cc)
+  data_14 (Some Byte) reply = either Is14 (leb reply 0xFF) (Closed (outcome.Value reply)) (Bad why.ImpossibleReply) (λ t e. cc) (λ t e. cc)
+  data_14 (Some Word) reply = λ e. cc
+  data_14 (Some Long) reply = λ e. cc
 
   status_14 : (reply : ℕ) → Is14 (status_reply reply)
   status_14 reply =
@@ -45,7 +44,7 @@ module _ (g : Ground) where
       (λ t. either Is14 (eqb reply bus_error) (Closed outcome.BusError) _ (λ t e. cc)
       (λ t. either Is14 (eqb reply illegal) (Closed outcome.Illegal) (Bad why.ImpossibleReply) (λ t e. cc) (λ t e. cc)))
 
-  within_14 : (kind : ResultKind) (reader : Reader) (reply : ℕ) → done reader ≡ false → leb reply 0x1FFFF ≡ true → Is14 (after_reply kind reader reply)
+  within_14 : (kind : Option Size) (reader : Reader) (reply : ℕ) → done reader ≡ false → leb reply 0x1FFFF ≡ true → Is14 (after_reply kind reader reply)
   within_14 kind First reply waits small =
       rw small (either Is14 (leb reply 0xFFFF) (data_reply kind reply) (status_reply reply) (λ t. data_14 kind reply) (λ t. status_14 reply))
   within_14 kind (Second upper) reply waits small =
@@ -54,7 +53,7 @@ module _ (g : Ground) where
   within_14 kind (Bad h) reply waits small = λ e. cc
 
 -- of one above them 1
-above_is_1 : (kind : ResultKind) (reader : Reader) (reply : ℕ) → done reader ≡ false → leb reply 0x1FFFF ≡ false
+above_is_1 : (kind : Option Size) (reader : Reader) (reply : ℕ) → done reader ≡ false → leb reply 0x1FFFF ≡ false
     → after_reply kind reader reply ≡ Bad why.WordTooLarge
 above_is_1 kind First reply waits large = rw large
 above_is_1 kind (Second upper) reply waits large = rw large

@@ -1,10 +1,9 @@
 -- A gateway's visit (docs/gateway.md): the machine. From its state the next packet to send, and from a reply its next state and what is noted.
-use Rattle.std.specs.Prelude.{ℕ, suc, ◌+◌, ◌*◌, ◌%◌, ◌^◌, Bool, true, false, cond, ◌&&◌, ◌||◌, List, [], ◌∷◌, eqb, leb, ltb, get_or, set}
+use Rattle.std.specs.Prelude.{ℕ, suc, ◌+◌, ◌*◌, ◌%◌, ◌^◌, Bool, true, false, cond, ◌&&◌, ◌||◌, List, [], ◌∷◌, eqb, leb, ltb, get_or, set, Err, Ok, Result, ⊤}
+use Rattle.grounds.specs.declared.Ground.{Ground}
 use Rattle.command.specs.Reply.{complete, bus_error, illegal}
 use Rattle.grounds.specs.declared.Ground.TheVariants.{RequestOutOfRange, BufferTooShort}
 use Rattle.grounds.specs.declared.Ground.TheVariants as why
-use Rattle.grounds.specs.declared.Verdict.{Verdict}
-use Rattle.grounds.specs.declared.Verdict.TheVariants as verdict
 use Rattle.grounds.specs.Grounds.{number, check, judge}
 use Rattle.requests.specs.declared.Request.{Request}
 use Rattle.requests.specs.Request.{kind_of}
@@ -21,8 +20,6 @@ use Rattle.visit.specs.declared.Stage.TheVariants.{Marking, Asking, AsRead, NotR
 use Rattle.visit.specs.declared.Visit.{Visit}
 use Rattle.visit.specs.declared.Next.{Next}
 use Rattle.visit.specs.declared.Next.TheVariants.{Send, EndsAsRead, EndsNotRead}
-use Rattle.visit.specs.declared.Started.{Started}
-use Rattle.visit.specs.declared.Started.TheVariants.{Begun, Refused}
 use Rattle.asked.specs.VisitRequests.{registers_asked, request_at, in_table, marked}
 use Rattle.asked.specs.Marker.{last_at, mark_word, mark_holds}
 
@@ -32,7 +29,7 @@ abbrev pub table_in_range : ℕ → ℕ → Bool
 table_in_range address longwords = eqb (address % 4) 0 && (leb longwords 65536 && leb (address + 4 * longwords) (2 ^ 32))
 
 -- a place for each result
-abbrev pub start_verdict : ℕ → ℕ → ℕ → Verdict
+abbrev pub start_verdict : ℕ → ℕ → ℕ → Result ⊤ Ground
 start_verdict address longwords room =
     judge (check (table_in_range address longwords) RequestOutOfRange ∷ check (leb (registers_asked + longwords) room) BufferTooShort ∷ [])
 
@@ -40,11 +37,11 @@ start_verdict address longwords room =
 abbrev pub begun : ℕ → ℕ → Visit
 begun address longwords = record { address = address; ends = registers_asked + longwords; at = 0; packets = 0; stage = Marking 0 }
 
-abbrev pub started_by : Verdict → Visit → Started
-started_by verdict.Accepted v = Begun v
-started_by (verdict.Refused why) v = Refused why
+abbrev pub started_by : Result ⊤ Ground → Visit → Result Visit Ground
+started_by (Ok _) v = Ok v
+started_by (Err why) v = Err why
 
-abbrev pub start_of : ℕ → ℕ → ℕ → Started
+abbrev pub start_of : ℕ → ℕ → ℕ → Result Visit Ground
 start_of address longwords room = started_by (start_verdict address longwords room) (begun address longwords)
 
 -- ---- the next packet

@@ -1,10 +1,10 @@
 -- Laws of a visit's end: each reply brings it nearer, so that it ends within a bound, and each is counted.
 use Prim.Native.Nat.{ℕ, suc, ◌+◌, ◌-◌, ◌*◌, ◌≤◌, ◌<◌}
 use Rattle.std.proofs.Common.{arith, ◌∙◌, leb-false, ltb-true, lt-ltb, ne_eqb}
-use Rattle.std.specs.Prelude.{◌≡◌, refl, true, false, cond, ◌&&◌, ◌||◌, List, [], ◌∷◌, eqb, leb, ltb, length}
+use Rattle.memory.specs.declared.Size.{Size}
+use Rattle.std.specs.Prelude.{◌≡◌, refl, true, false, cond, ◌&&◌, ◌||◌, List, [], ◌∷◌, eqb, leb, ltb, length, Ok, Option}
 use Rattle.laws.specs.TestLaws.{by_test, either, neither}
 use Rattle.command.specs.Reply.{complete}
-use Rattle.requests.specs.declared.ResultKind.{ResultKind}
 use Rattle.requests.specs.Request.{kind_of}
 use Rattle.readings.specs.declared.Outcome.{Outcome}
 use Rattle.readings.specs.declared.Reader.{Reader}
@@ -19,7 +19,6 @@ use Rattle.visit.specs.declared.Reason.TheVariants.{Late, NotReady, WordTooLarge
 use Rattle.visit.specs.declared.Stage.{Stage}
 use Rattle.visit.specs.declared.Stage.TheVariants.{Marking, Asking, AsRead, NotRead}
 use Rattle.visit.specs.declared.Visit.{Visit}
-use Rattle.visit.specs.declared.Started.TheVariants.{Begun}
 use Rattle.visit.specs.Visit.{start_of, request_now, patience, counted, on_stage, after_marker, mark_stage, is_illegal, is_bus_error, afterwards}
 use Rattle.visit.specs.Visit.{stage_after, notable, closed_by, first_stage, second_stage, read_by, reader_after, command_stage, ask_stage, heard_at}
 use Rattle.visit.specs.Visit.{is_over, heard}
@@ -152,7 +151,7 @@ module _ (v : Visit) (sent : ℕ) (few : sent ≤ 256) (more : v.at < v.ends) wh
   first_nearer (Closed o) asked = closes First o
   first_nearer (Bad why) asked = breaks First why
 
-  read_nearer : (kind : ResultKind) (reader : Reader) (reply : ℕ) → eqb sent 0 ≡ false
+  read_nearer : (kind : Option Size) (reader : Reader) (reply : ℕ) → eqb sent 0 ≡ false
       → Nearer v (Asking sent reader) (read_by v sent (after_reply kind reader reply))
   read_nearer kind First reply asked = first_nearer (after_reply kind First reply) asked
   read_nearer kind (Second upper) reply asked =
@@ -228,7 +227,7 @@ module _ (most : ℕ) (small : most < 0xFFFFFFFF) where
       (λ going. rw going (omega (arith, all_counted replies (heard v reply) (still_going v reply f going), counted_once v reply f going)))
 
 -- ---- a visit that was begun
-module _ (address longwords room : ℕ) {v : Visit} (started : start_of address longwords room ≡ Begun v) where
+module _ (address longwords room : ℕ) {v : Visit} (started : start_of address longwords room ≡ Ok v) where
   begun_going : Going (most_packets v.ends) v
   begun_going = rw (begun_with address longwords room started).visit (record { kept = omega arith; budget = omega arith })
 

@@ -1,10 +1,9 @@
 -- Laws of a visit: how it begins, what is over stays and notes nothing more, a note is read back, and nothing is handed over that is not read.
-use Rattle.std.specs.Prelude.{ℕ, ◌+◌, ◌*◌, ◌%◌, ◌^◌, ◌≤◌, ◌<◌, ◌≡◌, refl, true, false, ◌&&◌, List, [], ◌∷◌, eqb, leb}
+use Rattle.std.specs.Prelude.{ℕ, ◌+◌, ◌*◌, ◌%◌, ◌^◌, ◌≤◌, ◌<◌, ◌≡◌, refl, true, false, ◌&&◌, List, [], ◌∷◌, eqb, leb, Err, None, Ok, Result, ⊤}
+use Rattle.grounds.specs.declared.Ground.{Ground}
 use Rattle.std.proofs.Common.{eqb-true, leb-true, lt-ltb}
 use Rattle.laws.specs.TestLaws.{either, both_hold}
 use Rattle.grounds.specs.declared.Ground.TheVariants.{RequestOutOfRange, BufferTooShort}
-use Rattle.grounds.specs.declared.Verdict.{Verdict}
-use Rattle.grounds.specs.declared.Verdict.TheVariants as verdict
 use Rattle.grounds.specs.Grounds.{check}
 use Rattle.grounds.specs.GroundLaws.{accepted_holds}
 use Rattle.readings.specs.declared.Outcome.{Outcome}
@@ -13,8 +12,6 @@ use Rattle.asked.specs.VisitRequests.{registers_asked}
 use Rattle.visit.specs.declared.Stage.{Stage}
 use Rattle.visit.specs.declared.Stage.TheVariants.{Marking, Asking, AsRead, NotRead}
 use Rattle.visit.specs.declared.Visit.{Visit}
-use Rattle.visit.specs.declared.Started.TheVariants.{Begun}
-use Rattle.visit.specs.declared.Handed.TheVariants.{Nothing}
 use Rattle.visit.specs.Visit.{table_in_range, start_verdict, begun, started_by, start_of, is_over, heard, lost, note_of, noted_at, noted}
 use Rattle.visit.specs.HandedOver.{is_as_read, outcome_of, handed_over}
 
@@ -41,11 +38,11 @@ pub record BegunWith (address longwords room : ℕ) (v : Visit) : Type 0 where
   pub table : table_in_range address longwords ≡ true
   pub places : registers_asked + longwords ≤ room
 
-started_accepted : (judged : Verdict) (v w : Visit) → started_by judged w ≡ Begun v → (judged ≡ verdict.Accepted) × (v ≡ w)
-started_accepted verdict.Accepted v w e = (refl, cc)
-started_accepted (verdict.Refused why) v w e = (cc, cc)
+started_accepted : (judged : Result ⊤ Ground) (v w : Visit) → started_by judged w ≡ Ok v → (judged ≡ Ok tt) × (v ≡ w)
+started_accepted (Ok _) v w e = (refl, cc)
+started_accepted (Err why) v w e = (cc, cc)
 
-pub begun_with : (address longwords room : ℕ) {v : Visit} → start_of address longwords room ≡ Begun v → BegunWith address longwords room v
+pub begun_with : (address longwords room : ℕ) {v : Visit} → start_of address longwords room ≡ Ok v → BegunWith address longwords room v
 begun_with address longwords room {v} e =
     let started = started_accepted (start_verdict address longwords room) v (begun address longwords) e in
     let places = leb (registers_asked + longwords) room in
@@ -90,6 +87,6 @@ note_read_back BusError small = refl
 note_read_back Illegal small = refl
 
 -- "after a visit that ends not read, nothing is"
-pub nothing_unless_read : (v : Visit) (notes : List ℕ) (j : ℕ) → is_as_read v.stage ≡ false → handed_over v notes j ≡ Nothing
+pub nothing_unless_read : (v : Visit) (notes : List ℕ) (j : ℕ) → is_as_read v.stage ≡ false → handed_over v notes j ≡ None
 unfolding handed_over
 nothing_unless_read v notes j unread = rw unread

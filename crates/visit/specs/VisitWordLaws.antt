@@ -1,12 +1,11 @@
 -- Laws of a visit's packets: five words of zero, built into, hold the words of what is asked, and then NOPs.
-use Rattle.std.specs.Prelude.{ℕ, zero, suc, ◌≤◌, ◌≡◌, refl, true, List, [], ◌∷◌, leb, length, get_or, replicate}
+use Rattle.std.specs.Prelude.{ℕ, zero, suc, ◌≤◌, ◌≡◌, refl, true, List, [], ◌∷◌, leb, length, get_or, replicate, Ok, Result}
+use Rattle.grounds.specs.declared.Ground.{Ground}
 use Rattle.std.proofs.Common.{arith, ap, ◌∙◌, leb-true}
 use Rattle.std.proofs.Math.ListN.{get_or-eq_default}
 use Rattle.requests.specs.declared.Request.{Request}
-use Rattle.building.specs.declared.Built.{Built}
 use Rattle.building.specs.RequestWords.{built_words}
 use Rattle.building.specs.Building.{BuildingMeets, buffer_at}
-use Rattle.grounds.specs.declared.Verdict.TheVariants.{Accepted}
 use Rattle.asked.specs.VisitRequests.{request_at}
 use Rattle.asked.specs.RequestAtLaws.{each_asked, asked_in_range}
 
@@ -29,7 +28,7 @@ three_words word upper lower (suc (suc (suc (suc (suc i))))) = refl
 -- there is room for them, and what stands behind them is NOPs
 abbrev ThenNops : Request → Type 0
 ThenNops request =
-    (leb (length (built_words request)) 5 ≡ true) × ((i : ℕ) → get_or (buffer_at Accepted request (replicate 5 0)) i 0 ≡ get_or (built_words request) i 0)
+    (leb (length (built_words request)) 5 ≡ true) × ((i : ℕ) → get_or (buffer_at (Ok tt) request (replicate 5 0)) i 0 ≡ get_or (built_words request) i 0)
 
 then_nops : (address j : ℕ) → ThenNops (request_at address j)
 then_nops address j =
@@ -42,7 +41,7 @@ then_nops address j =
       further = λ t b. (refl, one_word _);
     })
 
-pub asked_then_nops : (address j : ℕ) {r : Built} {after : List ℕ} → BuildingMeets (request_at address j) (replicate 5 0) r after
+pub asked_then_nops : (address j : ℕ) {r : Result ℕ Ground} {after : List ℕ} → BuildingMeets (request_at address j) (replicate 5 0) r after
     → (i : ℕ) → get_or after i 0 ≡ get_or (built_words (request_at address j)) i 0
 asked_then_nops address j met i =
     let sent = then_nops address j in

@@ -51,23 +51,11 @@ pub struct Visit {
 }
 
 #[derive(Clone, Copy)]
-pub enum Started {
-    Begun(Visit),
-    Refused(Ground),
-}
-
-#[derive(Clone, Copy)]
 pub enum Next {
     Send(u32),
     EndsAsRead,
     // The packet whose reply ended it, and why.
     EndsNotRead(u32, Reason),
-}
-
-#[derive(Clone, Copy)]
-pub enum Handed {
-    Given(Outcome),
-    Nothing,
 }
 
 pub fn is_over(stage: Stage) -> bool
@@ -128,16 +116,16 @@ fn is_table_in_range(address: u32, longwords: u32) -> bool
 }
 
 // The notes have a place for each result.
-pub fn start(address: u32, longwords: u32, notes: &[u64]) -> Started
+pub fn start(address: u32, longwords: u32, notes: &[u64]) -> Result<Visit, Ground>
     ensures { result ≡ start_of address longwords (length notes.now) }
 {
     if !is_table_in_range(address, longwords) {
-        return Started::Refused(Ground::RequestOutOfRange);
+        return Err(Ground::RequestOutOfRange);
     }
     if notes.len() < asked::REGISTERS as usize + longwords as usize {
-        return Started::Refused(Ground::BufferTooShort);
+        return Err(Ground::BufferTooShort);
     }
-    Started::Begun(Visit {
+    Ok(Visit {
         address: address,
         ends: asked::REGISTERS + longwords,
         at: 0,
@@ -404,18 +392,18 @@ fn outcome_of(note: u64) -> Outcome
 }
 
 // Result j of a visit that ended as read: the registers first, then the table.
-pub fn hand_over(visit: Visit, notes: &[u64], j: u32) -> Handed
+pub fn hand_over(visit: Visit, notes: &[u64], j: u32) -> Option<Outcome>
     ensures { result ≡ handed_over visit notes.now j }
 {
     let stage = visit.stage;
     if !is_as_read(stage) {
-        return Handed::Nothing;
+        return None;
     }
     let i = j as usize;
     if j < visit.ends {
         if i < notes.len() {
-            return Handed::Given(outcome_of(notes[i]));
+            return Some(outcome_of(notes[i]));
         }
     }
-    Handed::Nothing
+    None
 }

@@ -1,7 +1,8 @@
 -- A request's packets, by the port's phase: an operand is due, then it waits or shows its upper result word, and only at rest is the reader done.
 use Prim.Native.Nat.{ℕ, zero, suc, ◌+◌, ◌≤◌}
 use native.Mathlib.Omega.{arith}
-use Rattle.std.specs.Prelude.{◌≡◌, true, false, length}
+use Rattle.std.specs.Prelude.{◌≡◌, true, false, length, None, Option, Some}
+use Rattle.memory.specs.declared.Size.{Size}
 use Rattle.std.proofs.Math.Path.{refl}
 use Rattle.std.proofs.Common.{sym, ap, ◌∙◌, subst}
 use mathlib.Core.List.{List, [], ◌∷◌}
@@ -19,8 +20,6 @@ use Rattle.plan.specs.Plan.{no_operands, with_operand, waits_of, work_after, col
 use Rattle.step.specs.Step.{reply_now, left, plan_for, stepped}
 use Rattle.rest.specs.ToGoLaws.{waits_at_most}
 use Rattle.requests.specs.declared.Request.{Request}
-use Rattle.requests.specs.declared.ResultKind.{ResultKind}
-use Rattle.requests.specs.declared.ResultKind.TheVariants.{NoResult, OfSize}
 use Rattle.requests.specs.Request.{in_range, kind_of}
 use Rattle.building.specs.RequestWords.{command_word, operands}
 use Rattle.building.specs.RequestWordLaws.{Clear, operands_clear}
@@ -53,7 +52,7 @@ Ignores (Waiting c left address value) = Unit {0}
 Ignores (Upper low) = Unit {0}
 
 -- ---- what is ahead of a request
-module _ (kind : ResultKind) where
+module _ (kind : Option Size) where
   abbrev pub reader_next : Reader → State → Reader
   reader_next reader s = after_reply kind reader (reply_now s.place)
 
@@ -82,23 +81,23 @@ shown_at_most Failed = omega arith
 shown_at_most (OneWord v) = omega arith
 shown_at_most (TwoWords v) = omega arith
 
-ending_ahead : (kind : ResultKind) (e : Ending) (s : Scene) → Fits kind e → Waits kind (shown_before e) First (ended_in e s)
+ending_ahead : (kind : Option Size) (e : Ending) (s : Scene) → Fits kind e → Waits kind (shown_before e) First (ended_in e s)
 unfolding reply_now stepped plan_for
-ending_ahead NoResult Complete s f = (refl, refl)
-ending_ahead NoResult Failed s f = (refl, refl)
-ending_ahead NoResult (OneWord v) s f = absurd f
-ending_ahead NoResult (TwoWords v) s f = absurd f
-ending_ahead (OfSize size) Complete s f = absurd f
-ending_ahead (OfSize size) Failed s f = (refl, refl)
-ending_ahead (OfSize Byte) (OneWord v) s f = (refl, rw (after_byte v f))
-ending_ahead (OfSize Word) (OneWord v) s f = (refl, rw (after_word v f))
-ending_ahead (OfSize Long) (OneWord v) s f = absurd f
-ending_ahead (OfSize Byte) (TwoWords v) s f = absurd f
-ending_ahead (OfSize Word) (TwoWords v) s f = absurd f
-ending_ahead (OfSize Long) (TwoWords v) s f = (tt, rw (after_upper v f), rw (after_upper v f) (refl, rw (after_lower (OfSize Long) v)))
+ending_ahead None Complete s f = (refl, refl)
+ending_ahead None Failed s f = (refl, refl)
+ending_ahead None (OneWord v) s f = absurd f
+ending_ahead None (TwoWords v) s f = absurd f
+ending_ahead (Some size) Complete s f = absurd f
+ending_ahead (Some size) Failed s f = (refl, refl)
+ending_ahead (Some Byte) (OneWord v) s f = (refl, rw (after_byte v f))
+ending_ahead (Some Word) (OneWord v) s f = (refl, rw (after_word v f))
+ending_ahead (Some Long) (OneWord v) s f = absurd f
+ending_ahead (Some Byte) (TwoWords v) s f = absurd f
+ending_ahead (Some Word) (TwoWords v) s f = absurd f
+ending_ahead (Some Long) (TwoWords v) s f = (tt, rw (after_upper v f), rw (after_upper v f) (refl, rw (after_lower (Some Long) v)))
 
 -- ---- the words before them
-module _ (kind : ResultKind) (c : Command) (s : State) where
+module _ (kind : Option Size) (c : Command) (s : State) where
   waits_ahead : (k n address value : ℕ) → Waits kind n First (left (Work c address value) s)
       → Waits kind (k + n) First (left (work_after k c address value) s)
   unfolding reply_now

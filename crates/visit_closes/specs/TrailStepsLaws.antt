@@ -1,8 +1,7 @@
 -- Demand 3's command words, packet by packet: what a packet is for the last word, by the port's phase, and the words of a history that goes on.
-use Rattle.std.specs.Prelude.{ℕ, suc, ◌≤◌, ◌≡◌, refl, true, false, List, [], ◌∷◌, ◌++◌}
+use Rattle.std.specs.Prelude.{ℕ, suc, ◌≤◌, ◌≡◌, refl, true, false, List, [], ◌∷◌, ◌++◌, Err, Ok, Result, ⊤}
+use Rattle.grounds.specs.declared.Ground.{Ground}
 use Rattle.std.proofs.Common.{ap, ◌∙◌}
-use Rattle.grounds.specs.declared.Verdict.{Verdict}
-use Rattle.grounds.specs.declared.Verdict.TheVariants.{Accepted, Refused}
 use Rattle.grounds.specs.Grounds.{if_accepted}
 use Rattle.board.specs.declared.Phase.{Phase}
 use Rattle.board.specs.declared.Phase.TheVariants.{Rest, Due, Waiting, Upper}
@@ -88,13 +87,13 @@ abbrev pub Both : State → Trail → List Call → List Call → Type 0
 Both s t xs ys = trail stand_in t (finds stand_in s (xs ++ ys))
     ≡ trail stand_in (trail stand_in t (finds stand_in s xs)) (finds stand_in (after stand_in s xs) ys)
 
-goes_on_by : (v : Verdict) (s taken : State) (t : Trail) (f : Found) (xs ys : List Call) → Both taken (noted stand_in t f) xs ys → Both s t xs ys
+goes_on_by : (v : Result ⊤ Ground) (s taken : State) (t : Trail) (f : Found) (xs ys : List Call) → Both taken (noted stand_in t f) xs ys → Both s t xs ys
     → trail stand_in t (if_accepted v (f ∷ finds stand_in (if_accepted v taken s) (xs ++ ys)) (finds stand_in (if_accepted v taken s) (xs ++ ys)))
     ≡ trail stand_in (trail stand_in t (if_accepted v (f ∷ finds stand_in (if_accepted v taken s) xs) (finds stand_in (if_accepted v taken s) xs)))
     (finds stand_in (after stand_in (if_accepted v taken s) xs) ys)
 unfolding trail
-goes_on_by Accepted s taken t f xs ys accepted refused = accepted
-goes_on_by (Refused g) s taken t f xs ys accepted refused = refused
+goes_on_by (Ok _) s taken t f xs ys accepted refused = accepted
+goes_on_by (Err g) s taken t f xs ys accepted refused = refused
 
 pub trail_goes_on : (s : State) (t : Trail) (xs ys : List Call) → Both s t xs ys
 unfolding trail finds after
@@ -123,7 +122,7 @@ unfolding trail finds packets_of
 trail_packet t word words {s} f small =
     let lent : Lent = record { bytes = s.memory; narrow = f.memory.bytes } in
     let fits : Fits s.board.w s = record { board = f.board; place = f.place } in
-    let accepted : packet_verdict s word ≡ Accepted = within_is_accepted s.board.w s fits lent word f.memory.limit small in
+    let accepted : packet_verdict s word ≡ Ok tt = within_is_accepted s.board.w s fits lent word f.memory.limit small in
     ap goes (bytes_as_they_are s.memory f.memory.bytes) ∙ rw accepted
   where
     goes : List ℕ → Trail

@@ -1,5 +1,5 @@
 -- Laws of the lines of `gateway`: the parts written out are its lines, and none of them is cut.
-use Rattle.std.specs.Prelude.{ℕ, zero, suc, ◌+◌, ◌-◌, ◌/◌, ◌≤◌, ◌<◌, ◌≡◌, refl, List, [], ◌∷◌, ◌++◌, ltb, length, get_or}
+use Rattle.std.specs.Prelude.{ℕ, zero, suc, ◌+◌, ◌-◌, ◌/◌, ◌≤◌, ◌<◌, ◌≡◌, refl, List, [], ◌∷◌, ◌++◌, ltb, length, get_or, None, Option, Some}
 use Rattle.std.proofs.Common.{arith, add-one, length-append}
 use Rattle.laws.specs.TestLaws.{either}
 use Rattle.control.specs.Control.{control_numbers}
@@ -13,8 +13,6 @@ use Rattle.console.specs.LineWriting.{line_end}
 use Rattle.console.specs.GatheringLaws.{joined, parts_joined, EachWithin, parts_within}
 use Rattle.visit.specs.declared.Reason.{Reason}
 use Rattle.visit.specs.declared.Reason.TheVariants.{Late, NotReady, NoReply, WordTooLarge, ImpossibleReply}
-use Rattle.visit.specs.declared.Handed.{Handed}
-use Rattle.visit.specs.declared.Handed.TheVariants.{Given, Nothing}
 use Rattle.visit_text.specs.VisitText.{register_text, control_text, table_text, subject_text, value_text, result_text, reason_text, not_read_text}
 use Rattle.visit.specs.declared.Visit.{Visit}
 use Rattle.visit.specs.declared.Next.{Next}
@@ -81,10 +79,10 @@ results_within : (most : ℕ) → 64 ≤ most → (left j : ℕ) (v : Visit) (no
 results_within most h zero j v notes = (omega (arith, read_length v), tt)
 results_within most h (suc left) j v notes = by_handed (handed_over v notes j) (results_within most h left (suc j) v notes)
   where
-    by_handed : (handed : Handed) → EachWithin most (result_lines left (suc j) v notes ++ read_line v ∷ [])
+    by_handed : (handed : Option Outcome) → EachWithin most (result_lines left (suc j) v notes ++ read_line v ∷ [])
         → EachWithin most ((result_line v.address j handed ++ result_lines left (suc j) v notes) ++ read_line v ∷ [])
-    by_handed (Given outcome) more = (omega (arith, result_length v.address j outcome), more)
-    by_handed Nothing more = more
+    by_handed (Some outcome) more = (omega (arith, result_length v.address j outcome), more)
+    by_handed None more = more
 
 -- and each part has room in a text of 128 bytes or more; the program lends 65,536
 pub end_within : (room : ℕ) (v : Visit) (notes : List ℕ) → 128 ≤ room → EachWithin room (end_parts room v notes)

@@ -1,11 +1,10 @@
 -- The desk's language, `gateway`: the lines that it writes, a packet's as it is sent, and when the visit is over what was read, or that nothing was.
-use Rattle.std.specs.Prelude.{ℕ, zero, suc, List, [], ◌∷◌, ◌++◌}
+use Rattle.std.specs.Prelude.{ℕ, zero, suc, List, [], ◌∷◌, ◌++◌, None, Option, Some}
+use Rattle.readings.specs.declared.Outcome.{Outcome}
 use Rattle.console.specs.LineWriting.{line_end}
 use Rattle.visit.specs.declared.Visit.{Visit}
 use Rattle.visit.specs.declared.Next.{Next}
 use Rattle.visit.specs.declared.Next.TheVariants.{Send, EndsAsRead, EndsNotRead}
-use Rattle.visit.specs.declared.Handed.{Handed}
-use Rattle.visit.specs.declared.Handed.TheVariants.{Given, Nothing}
 use Rattle.visit.specs.Visit.{next_of}
 use Rattle.visit.specs.HandedOver.{handed_over}
 use Rattle.visit_text.specs.VisitText.{packet_text, result_text, read_text, not_read_text}
@@ -20,9 +19,9 @@ abbrev pub packet_line : Visit → List (List ℕ)
 packet_line v = packet_line_by (next_of v)
 
 -- a line for a result that is handed over
-abbrev pub result_line : ℕ → ℕ → Handed → List (List ℕ)
-result_line address j (Given outcome) = result_text address j outcome ∷ []
-result_line address j Nothing = []
+abbrev pub result_line : ℕ → ℕ → Option Outcome → List (List ℕ)
+result_line address j (Some outcome) = result_text address j outcome ∷ []
+result_line address j None = []
 
 -- those of so many results from the j-th on
 abbrev pub result_lines : ℕ → ℕ → Visit → List ℕ → List (List ℕ)

@@ -1,5 +1,5 @@
 -- Laws of what `gateway` says of a stand-in: what its requests mean in turn, each longword with its own address.
-use Rattle.std.specs.Prelude.{ℕ, zero, suc, ◌+◌, ◌-◌, ◌*◌, ◌^◌, ◌≤◌, ◌<◌, ◌≡◌, refl, true, false, List, [], ◌∷◌, ◌++◌, length, get_or, drop, leb}
+use Rattle.std.specs.Prelude.{ℕ, zero, suc, ◌+◌, ◌-◌, ◌*◌, ◌^◌, ◌≤◌, ◌<◌, ◌≡◌, refl, true, false, List, [], ◌∷◌, ◌++◌, length, get_or, drop, leb, None, Some}
 use Rattle.std.proofs.Common.{arith, zero-add, mod-eq_of_lt, ap, sym, ◌∙◌, drop-cons, le-ltb, leb-true, leb-false}
 use Rattle.std.proofs.Math.ListN.{get_or-append}
 use Rattle.std.proofs.Math.Seq.{drop-length}
@@ -13,7 +13,6 @@ use Rattle.readings.specs.declared.Outcome.{Outcome}
 use Rattle.readings.specs.declared.Outcome.TheVariants.{Value, BusError}
 use Rattle.asked.specs.VisitRequests.{registers_asked}
 use Rattle.visit.specs.declared.Visit.{Visit}
-use Rattle.visit.specs.declared.Handed.TheVariants.{Given, Nothing}
 use Rattle.visit.specs.Visit.{next_of, table_in_range}
 use Rattle.visit.specs.VisitLaws.{table_within}
 use Rattle.visit.specs.HandedOver.{handed_over}
@@ -31,7 +30,7 @@ use Rattle.visit_told.specs.VisitTold.{outcome_lines, word_line, said_of}
 
 -- results that are handed over have the lines of their outcomes
 results_told : (v : Visit) (notes : List ℕ) (outcomes : List Outcome)
-    → ((i : ℕ) → i < length outcomes → handed_over v notes i ≡ Given (get_or outcomes i (Value 0))) → (left j : ℕ) → j + left ≡ length outcomes
+    → ((i : ℕ) → i < length outcomes → handed_over v notes i ≡ Some (get_or outcomes i (Value 0))) → (left j : ℕ) → j + left ≡ length outcomes
     → result_lines left j v notes ≡ outcome_lines v.address j (drop j outcomes)
 results_told v notes outcomes handed zero j e =
     let all : j ≡ length outcomes = omega arith in
@@ -53,10 +52,10 @@ word_subject address k small =
     let number : 27 + k - 27 ≡ k = omega arith in
     rw (le-ltb (27 + k) 16 (omega arith), le-ltb (27 + k) 26 (omega arith), le-ltb (27 + k) 27 (omega arith), number, mod-eq_of_lt small)
 
-nothing_given : {outcome : Outcome} → Nothing ≡ Given outcome → ⊥
+nothing_given : {outcome : Outcome} → None ≡ Some outcome → ⊥
 nothing_given e = let z : ◌≡◌ {A = ℕ} 0 1 = cc in omega (arith, z)
 
-given_once : {a b : Outcome} → Given a ≡ Given b → a ≡ b
+given_once : {a b : Outcome} → Some a ≡ Some b → a ≡ b
 given_once e = cc
 
 module _ (address longwords : ℕ) (before : List ℕ) (s : State) (f : Sound s) (fits : table_in_range address longwords ≡ true)
@@ -83,7 +82,7 @@ module _ (address longwords : ℕ) (before : List ℕ) (s : State) (f : Sound s)
   lines_counted j (o ∷ os) = ap suc (lines_counted (suc j) os)
 
   -- a result that is handed over has its line
-  result_told : (i : ℕ) (outcome : Outcome) → handed_at address longwords before s i ≡ Given outcome
+  result_told : (i : ℕ) (outcome : Outcome) → handed_at address longwords before s i ≡ Some outcome
       → get_or (said_of address longwords before s) i [] ≡ result_text address i outcome
   result_told i outcome e = by_test (leb (length outcomes) i) beyond within
     where

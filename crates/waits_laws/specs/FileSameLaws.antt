@@ -1,5 +1,7 @@
 -- Laws of [10] over a file: at another W each line is taken alike, shows the same row and leaves the same but for W.
-use Rattle.std.specs.Prelude.{ℕ, zero, suc, ◌+◌, ◌*◌, ◌≤◌, ◌<◌, ◌≡◌, refl, true, false, List, [], ◌∷◌, ◌++◌, get_or, set, take, drop}
+use Rattle.std.specs.Prelude.{ℕ, zero, suc, ◌+◌, ◌*◌, ◌≤◌, ◌<◌, ◌≡◌, refl, true, false, List, [], ◌∷◌, ◌++◌, get_or, set, take, drop, Err, Ok, Result}
+use Rattle.readings.specs.declared.Outcome.{Outcome}
+use Rattle.grounds.specs.declared.Ground.{Ground}
 use Rattle.std.proofs.Common.{arith, ap, ap₂, sym, ◌∙◌, true≢false}
 use Rattle.std.proofs.Math.Seq.{sets}
 use Rattle.laws.specs.TestLaws.{by_test}
@@ -12,8 +14,6 @@ use Rattle.text.specs.Text.{ascii}
 use Rattle.requests.specs.declared.Request.{Request}
 use Rattle.refusal_text.specs.RefusalText.{refused_text}
 use Rattle.request_text.specs.RequestText.{outcome_text}
-use Rattle.exchange.specs.declared.Exchanged.{Exchanged}
-use Rattle.exchange.specs.declared.Exchanged.TheVariants.{Ended, Refused}
 use Rattle.exchange.specs.Exchange.{exchange_leaves}
 use Rattle.numbers.specs.Numbers.{byte_at}
 use Rattle.lent.specs.Lent.{listed, zeros, bytes_from}
@@ -90,9 +90,9 @@ abbrev told_as : Result → List ℕ
 told_as (Result.came outcome) = outcome_text outcome
 told_as (Result.refused why) = refused_text why
 
-result_told : (x : Exchanged) → result_text x ≡ told_as (result_of x)
-result_told (Ended outcome packets) = refl
-result_told (Refused why) = refl
+result_told : (x : Result (Outcome × ℕ) Ground) → result_text x ≡ told_as (result_of x)
+result_told (Ok (outcome, packets)) = refl
+result_told (Err why) = refl
 
 module _ (w : ℕ) (small : w ≤ 15) (line : List ℕ) (l : Left) (s : Stands l) where
   asked_same : (request : Request) → SameLine w line (Ask request) l

@@ -1,9 +1,8 @@
 -- Laws of the packets that a page counts: no request takes more than 41, so the sum is never cut off.
-use Rattle.std.specs.Prelude.{ℕ, ◌*◌, ◌≤◌, ◌≡◌, refl, List, [], ◌∷◌, length, take}
+use Rattle.std.specs.Prelude.{ℕ, ◌*◌, ◌≤◌, ◌≡◌, refl, List, [], ◌∷◌, length, take, Err, Ok, Result, ⊤}
+use Rattle.grounds.specs.declared.Ground.{Ground}
 use Rattle.std.proofs.Common.{arith, subst, sym}
 use Rattle.laws.specs.TestLaws.{by_test}
-use Rattle.grounds.specs.declared.Verdict.{Verdict}
-use Rattle.grounds.specs.declared.Verdict.TheVariants.{Accepted, Refused}
 use Rattle.board.specs.State.{State}
 use Rattle.requests.specs.declared.Request.{Request}
 use Rattle.round_trip.specs.BroughtToRest.{rest_budget, rest_scene}
@@ -28,9 +27,9 @@ state_on l = port_state l.bench (take l.bench.lent l.memory)
 few_packets : (request : Request) (l : Left) → Stands l → packets_in (answer_in request l) ≤ 41
 few_packets request l s = by_verdict (exchange_verdict request (state_on l)) refl
   where
-    by_verdict : (v : Verdict) → exchange_verdict request (state_on l) ≡ v → packets_in (answer_in request l) ≤ 41
-    by_verdict (Refused why) e = rw e (omega arith)
-    by_verdict Accepted e =
+    by_verdict : (v : Result ⊤ Ground) → exchange_verdict request (state_on l) ≡ v → packets_in (answer_in request l) ≤ 41
+    by_verdict (Err why) e = rw e (omega arith)
+    by_verdict (Ok _) e =
         let f = ready_sound s.ready (accepted_is_within request (state_on l) e).memory in
         let rest = rest_keeps_sound rest_budget (state_on l) f in
         rw e (omega (arith, rest_nops_bound rest_budget f, f.board.small, packets_bound request (rest_scene (state_on l)) rest.board.small))

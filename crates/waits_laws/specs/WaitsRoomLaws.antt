@@ -1,5 +1,6 @@
 -- Laws of the program's buffers: nothing of a page is cut off.
-use Rattle.std.specs.Prelude.{ℕ, zero, suc, ◌+◌, ◌*◌, ◌≤◌, ◌≡◌, true, false, List, [], ◌∷◌, ◌++◌, leb, length, take}
+use Rattle.std.specs.Prelude.{ℕ, zero, suc, ◌+◌, ◌*◌, ◌≤◌, ◌≡◌, true, false, List, [], ◌∷◌, ◌++◌, leb, length, take, Err, Ok, Result}
+use Rattle.readings.specs.declared.Outcome.{Outcome}
 use Rattle.std.proofs.Common.{arith, ap, ◌∙◌, length-append, take_all, leb-true, leb-false}
 use Rattle.laws.specs.TestLaws.{by_test}
 use Rattle.board.specs.Setters.{with_w}
@@ -14,8 +15,6 @@ use Rattle.grounds.specs.declared.Ground.TheVariants as why
 use Rattle.state_line.specs.StateText.{state_text}
 use Rattle.refusal_text.specs.RefusalText.{refused_text}
 use Rattle.readings.specs.declared.Outcome.TheVariants.{Value, Complete, BusError, Illegal}
-use Rattle.exchange.specs.declared.Exchanged.{Exchanged}
-use Rattle.exchange.specs.declared.Exchanged.TheVariants.{Ended, Refused}
 use Rattle.talk_lines.specs.declared.TalkLine.{TalkLine}
 use Rattle.talk_lines.specs.declared.TalkLine.TheVariants.{Board, Ask}
 use Rattle.talk_lines.specs.TalkLines.{talk_line}
@@ -45,14 +44,14 @@ refused_short why.StateOutOfRange = omega arith
 refused_short why.RequestOutOfRange = omega arith
 refused_short why.ImpossibleReply = omega arith
 
-result_short : (answer : Exchanged) → length (result_text answer) ≤ 15
-result_short (Ended (Value value) n) = omega (arith, length-append (ascii "value ") (hex_text 8 value), digits_length 16 8 value)
-result_short (Ended Complete n) = omega arith
-result_short (Ended BusError n) = omega arith
-result_short (Ended Illegal n) = omega arith
-result_short (Refused g) = refused_short g
+result_short : (answer : Result (Outcome × ℕ) Ground) → length (result_text answer) ≤ 15
+result_short (Ok (Value value, n)) = omega (arith, length-append (ascii "value ") (hex_text 8 value), digits_length 16 8 value)
+result_short (Ok (Complete, n)) = omega arith
+result_short (Ok (BusError, n)) = omega arith
+result_short (Ok (Illegal, n)) = omega arith
+result_short (Err g) = refused_short g
 
-row_length : (line : List ℕ) (answer : Exchanged) → length (row_text line answer) ≤ 18 * (length line + 1)
+row_length : (line : List ℕ) (answer : Result (Outcome × ℕ) Ground) → length (row_text line answer) ≤ 18 * (length line + 1)
 row_length line answer = simp length-append (omega (arith, result_short answer))
 
 -- the bytes of lines, with a line end for each

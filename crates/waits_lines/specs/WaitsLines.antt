@@ -1,5 +1,7 @@
 -- The file that `waits` is given (docs/waits.md): its lines, which of them it takes, what they leave and what is shown of them.
-use Rattle.std.specs.Prelude.{ℕ, suc, ◌+◌, min, ◌≡◌, Bool, true, false, cond, ◌&&◌, ◌||◌, not, List, [], ◌∷◌, ◌++◌, eqb, length, take}
+use Rattle.std.specs.Prelude.{ℕ, suc, ◌+◌, min, ◌≡◌, Bool, true, false, cond, ◌&&◌, ◌||◌, not, List, [], ◌∷◌, ◌++◌, eqb, length, take, Err, Ok, Result}
+use Rattle.readings.specs.declared.Outcome.{Outcome}
+use Rattle.grounds.specs.declared.Ground.{Ground}
 use Rattle.words.specs.LineWords.{joined}
 use Rattle.console.specs.InputLines.{is_line_end}
 use Rattle.text.specs.Text.{Puts, ascii}
@@ -10,8 +12,6 @@ use Rattle.talk_lines.specs.declared.TalkLine.{TalkLine}
 use Rattle.talk_lines.specs.declared.TalkLine.TheVariants.{Board, Ask}
 use Rattle.talk_lines.specs.TalkLines.{talk_line}
 use Rattle.lent.specs.Lent.{fits}
-use Rattle.exchange.specs.declared.Exchanged.{Exchanged}
-use Rattle.exchange.specs.declared.Exchanged.TheVariants.{Ended, Refused}
 use Rattle.refusal_text.specs.RefusalText.{refused_text}
 use Rattle.request_text.specs.RequestText.{outcome_text}
 use Rattle.answers.specs.Bench.{Left, left, over_lent, leaves}
@@ -67,21 +67,21 @@ left_as line (Board asked) l = leaves line asked l.bench l.memory
 left_as line (Ask request) l = over_lent (exchanged request) l.bench l.memory
 
 -- what the exchange answers
-abbrev pub answer_in : Request → Left → Exchanged
+abbrev pub answer_in : Request → Left → Result (Outcome × ℕ) Ground
 answer_in request l = exchange_outcome request l.bench (take l.bench.lent l.memory)
 
 -- "what `talk` answers, without ` packets N`"
-abbrev pub result_text : Exchanged → List ℕ
-result_text (Ended outcome packets) = outcome_text outcome
-result_text (Refused why) = refused_text why
+abbrev pub result_text : Result (Outcome × ℕ) Ground → List ℕ
+result_text (Ok (outcome, packets)) = outcome_text outcome
+result_text (Err why) = refused_text why
 
 -- a refusal sends none
-abbrev pub packets_in : Exchanged → ℕ
-packets_in (Ended outcome packets) = packets
-packets_in (Refused why) = 0
+abbrev pub packets_in : Result (Outcome × ℕ) Ground → ℕ
+packets_in (Ok (outcome, packets)) = packets
+packets_in (Err why) = 0
 
 -- "the request's line, byte by byte as it stands in the file without its line end, then `: ` and what `talk` answers"
-abbrev pub row_text : List ℕ → Exchanged → List ℕ
+abbrev pub row_text : List ℕ → Result (Outcome × ℕ) Ground → List ℕ
 row_text line answer = line ++ ascii ": " ++ result_text answer ++ ascii "\n"
 
 abbrev pub row_as : List ℕ → TalkLine → Left → List ℕ

@@ -1,5 +1,7 @@
 -- Laws of the file that `waits` is given: its bytes one by one, its lines one after another, and how long a result is.
-use Rattle.std.specs.Prelude.{ℕ, suc, ◌+◌, ◌-◌, ◌≤◌, ◌<◌, ◌≡◌, refl, Bool, true, false, cond, List, [], ◌∷◌, ◌++◌, eqb, length, get_or, take, drop}
+use Rattle.std.specs.Prelude.{ℕ, suc, ◌+◌, ◌-◌, ◌≤◌, ◌<◌, ◌≡◌, refl, Bool, true, false, cond, List, [], ◌∷◌, ◌++◌, eqb, length, get_or, take, drop, Err, Ok, Result}
+use Rattle.readings.specs.declared.Outcome.{Outcome}
+use Rattle.grounds.specs.declared.Ground.{Ground}
 use Rattle.std.proofs.Common.{true≢false, arith, suc-add, length-append, length-take, length-drop, drop_of_length-le, drop-drop}
 use Rattle.words.specs.LineWords.{joined}
 use Rattle.words.specs.LineWordLaws.{from_here}
@@ -10,8 +12,6 @@ use Rattle.text.specs.TextLaws.{◌then◌, nothing}
 use Rattle.text.specs.NumberText.{decimal_text, hex_text}
 use Rattle.text.proofs.NumberTextLaws.{digits_length, decimal_length}
 use Rattle.readings.specs.declared.Outcome.TheVariants.{Value, Complete, BusError, Illegal}
-use Rattle.exchange.specs.declared.Exchanged.{Exchanged}
-use Rattle.exchange.specs.declared.Exchanged.TheVariants.{Ended, Refused}
 use Rattle.talk_lines.specs.TalkLines.{talk_line}
 use Rattle.answers.specs.declared.Bench.{Bench}
 use Rattle.answers.specs.Bench.{Left, left}
@@ -21,12 +21,12 @@ use Rattle.waits_lines.specs.WaitsLines.{all_taken, lines_leave, rows, packets, 
 
 -- ---- how long a result is
 -- "value " and eight digits, "bus-error", or "refused N at C"
-pub result_length : (answer : Exchanged) → length (result_text answer) ≤ 64
-result_length (Ended (Value value) n) = omega (arith, length-append (ascii "value ") (hex_text 8 value), digits_length 16 8 value)
-result_length (Ended Complete n) = omega arith
-result_length (Ended BusError n) = omega arith
-result_length (Ended Illegal n) = omega arith
-result_length (Refused why) =
+pub result_length : (answer : Result (Outcome × ℕ) Ground) → length (result_text answer) ≤ 64
+result_length (Ok (Value value, n)) = omega (arith, length-append (ascii "value ") (hex_text 8 value), digits_length 16 8 value)
+result_length (Ok (Complete, n)) = omega arith
+result_length (Ok (BusError, n)) = omega arith
+result_length (Ok (Illegal, n)) = omega arith
+result_length (Err why) =
     omega (
       arith,
       length-append (decimal_text (number why) ++ ascii " at ") (decimal_text 0),

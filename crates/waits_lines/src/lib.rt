@@ -9,9 +9,10 @@ ghost use Rattle.talk_lines.specs.declared.TalkLine.TheVariants.{Board};
 ghost use Rattle.waits_lines.specs.WaitsLines.{file_lines, line_length, ends_one, line_number, prepares, is_taken, left_as, answer_in, result_text, packets_in};
 ghost use Rattle.waits_lines.specs.WaitsLines.{row_text, row_as, packets_as, capped, LinesTaken};
 
+use readings::Outcome;
+use grounds::Ground;
 use answers::Bench;
 use board_lines::BoardLine;
-use exchange::Exchanged;
 use refusal_text::put_refusal;
 use request_text::put_outcome;
 use requests::Request;
@@ -31,7 +32,7 @@ pub struct Gone {
 #[derive(Clone, Copy)]
 struct Asked {
     bench: Bench,
-    answer: Exchanged,
+    answer: Result<(Outcome, u32), Ground>,
 }
 
 // One line taken: the bench after it, where its row ends, its packets.
@@ -143,26 +144,26 @@ fn ask(request: Request, bench: Bench, memory: &mut [u8]) -> Asked
     converse(request, bench, &mut memory[..n])
 }
 
-fn put_result(text: &mut [u8], answer: Exchanged) -> usize
+fn put_result(text: &mut [u8], answer: Result<(Outcome, u32), Ground>) -> usize
     ensures { Puts text.old 0 (result_text answer) text.new result }
 {
     match answer {
-        Exchanged::Ended(outcome, _) => put_outcome(text, outcome),
-        Exchanged::Refused(ground) => put_refusal(text, ground),
+        Ok((outcome, _)) => put_outcome(text, outcome),
+        Err(ground) => put_refusal(text, ground),
     }
 }
 
-fn packets_in(answer: Exchanged) -> u32
+fn packets_in(answer: Result<(Outcome, u32), Ground>) -> u32
     ensures { result ≡ packets_in answer }
 {
     match answer {
-        Exchanged::Ended(_, packets) => packets,
-        Exchanged::Refused(_) => 0,
+        Ok((_, packets)) => packets,
+        Err(_) => 0,
     }
 }
 
 // No result has more bytes than its buffer.
-fn put_row(text: &mut [u8], at: usize, line: &[u8], answer: Exchanged) -> usize
+fn put_row(text: &mut [u8], at: usize, line: &[u8], answer: Result<(Outcome, u32), Ground>) -> usize
     ensures { Puts text.old at (row_text line.now answer) text.new result }
 {
     let mut result = [0u8; 64];

@@ -1,12 +1,12 @@
 -- Laws of the walk beside the listing: its items and count are the listing's, and its start is refused as the listing is, for every room.
-use Rattle.std.specs.Prelude.{◌≡◌, ℕ, zero, suc, ◌+◌, ◌-◌, ◌*◌, Bool, true, false, cond, List, [], ◌∷◌, ◌++◌, eqb, ltb, length, drop}
+use Rattle.std.specs.Prelude.{◌≡◌, ℕ, zero, suc, ◌+◌, ◌-◌, ◌*◌, Bool, true, false, cond, List, [], ◌∷◌, ◌++◌, eqb, ltb, length, drop, Result}
+use Rattle.trace.specs.declared.Refused.{Refused}
 use Rattle.std.proofs.Math.Path.{refl, ap}
 use Rattle.std.proofs.Common.{sym, ◌∙◌, suc-add, arith}
 use Rattle.std.specs.Borrow.{Bor}
 use Rattle.cycle.specs.declared.Carried.{Carried}
 use Rattle.cycle.specs.declared.Item.{Item}
 use Rattle.cycle.specs.Cycle.{pst, reserved, too_soon, nothing, after}
-use Rattle.trace.specs.declared.Listing.{Listing}
 use Rattle.trace.specs.Items.{items, words}
 use Rattle.trace.specs.ItemLaws.{length_words}
 use Rattle.trace.specs.TraceReading.{Told, refusal, counted, told_listing, too_long, earliest, ends_inside, too_short, judged_from, reading}
@@ -66,7 +66,7 @@ no_refusal walk [] k i h e = let z : ◌≡◌ {A = ℕ} 0 1 = cc (h 1) in omega
 no_refusal walk (x ∷ xs) k i h e = let g = rw (suc-add (length xs) 0) at (h 0) in let z : ◌≡◌ {A = ℕ} 0 1 = cc (g, e) in omega arith
 
 -- what a listing answers is known by the judgement
-answered : {trace before after : List ℕ} {r : Listing} → ListingMeets trace before r after → told_listing r ≡ with_room (length before) (reading trace)
+answered : {trace before after : List ℕ} {r : Result ℕ Refused} → ListingMeets trace before r after → told_listing r ≡ with_room (length before) (reading trace)
 answered {trace} {before} l = l.answer ∙ listing_by_room trace (length before)
 
 -- a buffer that is too short, or room enough, is no other refusal
@@ -80,7 +80,7 @@ eleven_alone n room k i = by_room (ltb room (2 * n))
 
 -- THE LAW: where a listing counts n items, into whatever buffer, the walk hands out these items, n of them, and then the end for ever
 pub walk_is_listing : (trace : Bor (List ℕ)) (walk : Walk) → WalkStarts trace walk
-    → {before after : List ℕ} {r : Listing} → ListingMeets trace.now before r after
+    → {before after : List ℕ} {r : Result ℕ Refused} → ListingMeets trace.now before r after
     → (n : ℕ) → told_listing r ≡ counted n → HandsListing trace.now walk n before after
 walk_is_listing trace walk s {before} l n e =
     let answer : listing trace.now (length before) ≡ counted n = sym l.answer ∙ e in
@@ -94,7 +94,7 @@ walk_is_listing trace walk s {before} l n e =
     }
 
 module _ (trace : Bor (List ℕ)) (walk : Walk) (s : WalkStarts trace walk) where
-  module _ {before after : List ℕ} {r : Listing} (l : ListingMeets trace.now before r after) where
+  module _ {before after : List ℕ} {r : Result ℕ Refused} (l : ListingMeets trace.now before r after) where
     -- where a listing is refused, and not on 11, every step hands out its number and cycle
     listing_refused : (k i : ℕ) → told_listing r ≡ refusal k i → (k ≡ 11 → ⊥) → HandsRefusal walk k i
     listing_refused k i e other = by_reading (reading trace.now) refl

@@ -1,8 +1,9 @@
 -- Recorded cycles (01), the walk: the struct that borrows the trace, its start and its steps.
-use Rattle.std.specs.Prelude.{◌≡◌, ℕ, zero, suc, List, [], ◌∷◌}
+use Rattle.std.specs.Prelude.{◌≡◌, ℕ, zero, suc, List, [], ◌∷◌, Option, Result}
+use Rattle.trace.specs.declared.Refused.{Refused}
+use Rattle.cycle.specs.declared.Item.{Item}
 use Rattle.std.specs.Borrow.{Bor}
 use Rattle.steps.specs.declared.Cursor.{Cursor}
-use Rattle.steps.specs.declared.Handed.{Handed}
 use Rattle.steps.specs.declared.Step.{Step}
 use Rattle.steps.specs.WalkStep.{StartMeets, step_of}
 use Rattle.walk.specs.declared.Walk.{Walk}
@@ -25,6 +26,6 @@ abbrev pub stepped_of : Walk → Stepped
 stepped_of walk = stepped_to walk (step_of walk.trace.now walk.cursor)
 
 -- what so many steps hand out, in their order, each taken from the walk that the step before it gave back
-unfoldable pub handed_out : ℕ → Walk → List Handed
+unfoldable pub handed_out : ℕ → Walk → List (Result (Option Item) Refused)
 handed_out zero walk = []
 handed_out (suc n) walk = (stepped_of walk).handed ∷ handed_out n (stepped_of walk).walk

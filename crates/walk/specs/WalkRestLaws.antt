@@ -1,16 +1,13 @@
 -- Laws of the rest: the items from a cursor on, and that a step hands out the first of them.
-use Rattle.std.specs.Prelude.{◌≡◌, refl, ℕ, zero, suc, ◌+◌, ◌-◌, ◌<◌, Bool, true, false, cond, List, [], ◌∷◌, ◌++◌, length}
+use Rattle.std.specs.Prelude.{◌≡◌, refl, ℕ, zero, suc, ◌+◌, ◌-◌, ◌<◌, Bool, true, false, cond, List, [], ◌∷◌, ◌++◌, length, Err, None, Ok, Option, Result, Some}
+use Rattle.trace.specs.declared.Refused.{Refused}
 use Rattle.std.proofs.Common.{ap, arith}
 use Rattle.cycle.specs.declared.Carried.{Carried}
 use Rattle.cycle.specs.declared.Item.{Item}
-use Rattle.trace.specs.declared.Listing.{Listing}
-use Rattle.trace.specs.declared.Listing.TheVariants.{Items, Refused}
 use Rattle.cycle.specs.Cycle.{pst, gives_own, after}
 use Rattle.cycle.specs.CycleItems.{of_value, of_cycle, own_item, items_at}
 use Rattle.trace.specs.Items.{items_from}
 use Rattle.steps.specs.declared.Cursor.{Cursor}
-use Rattle.steps.specs.declared.Handed.{Handed}
-use Rattle.steps.specs.declared.Handed.TheVariants.{Item as oneItem, End as atEnd, Refused as asRefused}
 use Rattle.steps.specs.declared.Step.{Step}
 use Rattle.steps.specs.WalkStep.{cursor_at, value_next, handing, step_from, step_of}
 use Rattle.steps.specs.WalkStepLaws.{step_refused, step_read_lem}
@@ -33,12 +30,12 @@ none_past trace zero i c = refl
 none_past trace (suc n) i c = refl
 
 -- what a step from some items leaves of them
-abbrev pub Unrolls : List ℕ → List Item → Cursor → Handed → Type 0
-Unrolls trace xs cursor (oneItem x) = xs ≡ x ∷ rest trace cursor
-Unrolls trace xs cursor atEnd = (xs ≡ []) × (rest trace cursor ≡ [])
-Unrolls trace xs cursor (asRefused why cycle) = ⊥
+abbrev pub Unrolls : List ℕ → List Item → Cursor → Result (Option Item) Refused → Type 0
+Unrolls trace xs cursor (Ok (Some x)) = xs ≡ x ∷ rest trace cursor
+Unrolls trace xs cursor (Ok None) = (xs ≡ []) × (rest trace cursor ≡ [])
+Unrolls trace xs cursor (Err r) = ⊥
 
-from_unrolls : (trace : List ℕ) (start : Listing) (n i : ℕ) (c : Carried) (past : Bool) → length trace - i ≡ n
+from_unrolls : (trace : List ℕ) (start : Result ℕ Refused) (n i : ℕ) (c : Carried) (past : Bool) → length trace - i ≡ n
     → Unrolls trace (items_past trace n i c past) (step_from trace start n i c past).cursor (step_from trace start n i c past).handed
     × ((step_from trace start n i c past).cursor.start ≡ start)
 unfolding items_past step_from
@@ -75,25 +72,25 @@ from_unrolls trace start (suc n) i c past e =
     by_value ih false = by_own ih (gives_own c.run p)
 
 -- THE LAW: the items from a cursor on are the one its step hands out, and those from the step's cursor on
-pub step_unrolls : (trace : List ℕ) (cursor : Cursor) (n : ℕ) → cursor.start ≡ Items n
+pub step_unrolls : (trace : List ℕ) (cursor : Cursor) (n : ℕ) → cursor.start ≡ Ok n
     → Unrolls trace (rest trace cursor) (step_of trace cursor).cursor (step_of trace cursor).handed × ((step_of trace cursor).cursor.start ≡ cursor.start)
 step_unrolls trace cursor n e =
     rw (step_read_lem trace cursor n e)
     (from_unrolls trace cursor.start (length trace - cursor.cycle) cursor.cycle cursor.carried cursor.past refl)
 
 -- an item handed out is one less to hand out
-pub rest_falls : (trace : List ℕ) (cursor : Cursor) (x : Item) → (step_of trace cursor).handed ≡ oneItem x
+pub rest_falls : (trace : List ℕ) (cursor : Cursor) (x : Item) → (step_of trace cursor).handed ≡ Ok (Some x)
     → length (rest trace (step_of trace cursor).cursor) < length (rest trace cursor)
 rest_falls trace cursor x e = by_start cursor.start refl
   where
-    by_handed : (xs : List Item) (q : Cursor) (h : Handed) → h ≡ oneItem x → Unrolls trace xs q h → length (rest trace q) < length xs
-    by_handed xs q (oneItem y) f u = let z = ap length u in omega arith
-    by_handed xs q atEnd f u = let z : ◌≡◌ {A = ℕ} 0 1 = cc in absurd (omega arith)
-    by_handed xs q (asRefused why cycle) f u = absurd u
+    by_handed : (xs : List Item) (q : Cursor) (h : Result (Option Item) Refused) → h ≡ Ok (Some x) → Unrolls trace xs q h → length (rest trace q) < length xs
+    by_handed xs q (Ok (Some y)) f u = let z = ap length u in omega arith
+    by_handed xs q (Ok None) f u = let z : ◌≡◌ {A = ℕ} 0 1 = cc in absurd (omega arith)
+    by_handed xs q (Err r) f u = absurd u
 
-    by_start : (l : Listing) → cursor.start ≡ l → length (rest trace (step_of trace cursor).cursor) < length (rest trace cursor)
-    by_start (Items n) f = by_handed (rest trace cursor) (step_of trace cursor).cursor (step_of trace cursor).handed e (step_unrolls trace cursor n f).0
-    by_start (Refused why cycle) f =
-        let h = step_refused trace cursor why cycle f in
+    by_start : (l : Result ℕ Refused) → cursor.start ≡ l → length (rest trace (step_of trace cursor).cursor) < length (rest trace cursor)
+    by_start (Ok n) f = by_handed (rest trace cursor) (step_of trace cursor).cursor (step_of trace cursor).handed e (step_unrolls trace cursor n f).0
+    by_start (Err r) f =
+        let h = step_refused trace cursor r.ground r.cycle f in
         let z : ◌≡◌ {A = ℕ} 0 1 = cc in
         absurd (omega arith)

@@ -5,7 +5,9 @@ ghost use Rattle.std.specs.Prelude.{◌≡◌};
 ghost use Rattle.steps.specs.WalkStep.{StartMeets, step_of};
 ghost use Rattle.walk.specs.Walk.{WalkStarts, stepped_of};
 
-use steps::{Cursor, Handed, Step};
+use cycle::Item;
+use trace::Refused;
+use steps::{Cursor, Step};
 
 #[derive(Clone, Copy)]
 pub struct Walk<'a> {
@@ -16,7 +18,7 @@ pub struct Walk<'a> {
 #[derive(Clone, Copy)]
 pub struct Stepped<'a> {
     pub walk: Walk<'a>,
-    pub handed: Handed,
+    pub handed: Result<Option<Item>, Refused>,
 }
 
 pub fn start_walk<'a>(trace: &'a [u8]) -> Walk<'a>

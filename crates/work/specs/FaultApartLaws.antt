@@ -1,11 +1,10 @@
 -- [4] Laws: no rule but its own reads the number that the board keeps, and none but its own changes it.
-use Rattle.std.specs.Prelude.{ℕ, ◌≡◌, Bool, true, false, cond, set}
+use Rattle.std.specs.Prelude.{ℕ, ◌≡◌, Bool, true, false, cond, set, Option}
 use Rattle.std.proofs.Math.Path.{refl}
 use Rattle.command.specs.declared.Command.{Command}
 use Rattle.command.specs.declared.Command.TheVariants.{Unknown, Nop, Load, Store, Show, Change}
 use Rattle.command.specs.declared.Source.TheVariants as source
 use Rattle.board.specs.declared.Board.{Board}
-use Rattle.board.specs.declared.Fault.{Fault}
 use Rattle.board.specs.Setters.{with_registers, with_control, with_fault}
 use Rattle.csr.specs.Csr.{csr_value}
 use Rattle.control.specs.Control.{control_index, control_listed, control_fetched, control_written}
@@ -14,7 +13,7 @@ use Rattle.registers.specs.ChangeLaws.{each_change}
 use Rattle.access.specs.declared.Access.{Access}
 use Rattle.work.specs.Work.{ending_of}
 
-module _ (b : Board) (f : Fault) where
+module _ (b : Board) (f : Option ℕ) where
   -- a command ends in the same
   pub same_ending : (c : Command) (address : ℕ) (access : Access) → ending_of c (with_fault b f) address access ≡ ending_of c b address access
   unfolding csr_value control_fetched

@@ -1,8 +1,6 @@
 -- Packets (01): what a command's work ends in, and what it leaves at the place.
-use Rattle.std.specs.Prelude.{ℕ, ◌/◌, ◌%◌, Bool, true, false}
+use Rattle.std.specs.Prelude.{ℕ, ◌/◌, ◌%◌, Bool, true, false, None, Option, Some}
 use Rattle.memory.specs.declared.Size.TheVariants.{Byte, Word, Long}
-use Rattle.control.specs.declared.Shown.{Shown}
-use Rattle.control.specs.declared.Shown.TheVariants.{Value, BusError}
 use Rattle.command.specs.declared.Command.{Command}
 use Rattle.command.specs.declared.Command.TheVariants.{Unknown, Nop, Load, Store, Show, Change}
 use Rattle.command.specs.Reply.{complete, bus_error}
@@ -29,9 +27,9 @@ access_ending (Stored past) = Complete
 access_ending (Missing first) = Failed
 
 -- a register shown has two result words
-abbrev pub shown_ending : Shown → Ending
-shown_ending (Value v) = TwoWords v
-shown_ending BusError = Failed
+abbrev pub shown_ending : Option ℕ → Ending
+shown_ending (Some v) = TwoWords v
+shown_ending None = Failed
 
 abbrev pub change_ending : Bool → Ending
 change_ending true = Complete

@@ -1,10 +1,7 @@
 -- Laws of the work: a bus error leaves the pointer and memory; NOP leaves the chain.
-use Rattle.std.specs.Prelude.{ℕ, ◌≡◌, refl, Bool, true, false, cond, List}
+use Rattle.std.specs.Prelude.{ℕ, ◌≡◌, refl, Bool, true, false, cond, List, Err, None, Ok, Option, Some}
 use Rattle.memory.specs.declared.Size.TheVariants.{Byte, Word, Long}
-use Rattle.memory.specs.declared.Reach.TheVariants.{Whole, Short}
 use Rattle.memory.specs.Memory.{aligned, present, first_missing, put_at, stored, reach}
-use Rattle.control.specs.declared.Shown.{Shown}
-use Rattle.control.specs.declared.Shown.TheVariants.{Value, BusError}
 use Rattle.command.specs.declared.Source.{Source}
 use Rattle.command.specs.declared.Source.TheVariants as source
 use Rattle.command.specs.declared.Command.{Command}
@@ -20,11 +17,11 @@ use Rattle.work.specs.WorkMirror.{value_ending}
 use Rattle.work.specs.Work.{access_ending, shown_ending, ending_of, chain_by}
 
 -- every register is shown in two words
-pub register_ending : (from : Source) (found : Shown) → value_ending (Show from) found ≡ shown_ending found
-register_ending (source.General n) (Value v) = refl
-register_ending source.Control (Value v) = refl
-register_ending source.Csr (Value v) = refl
-register_ending from BusError = refl
+pub register_ending : (from : Source) (found : Option ℕ) → value_ending (Show from) found ≡ shown_ending found
+register_ending (source.General n) (Some v) = refl
+register_ending source.Control (Some v) = refl
+register_ending source.Csr (Some v) = refl
+register_ending from None = refl
 
 -- "A bus error doesn't move it."
 failed_access_leaves_pointer : (x : Access) (pointer : ℕ) → access_ending x ≡ Failed → pointer_after x pointer ≡ pointer
@@ -55,7 +52,7 @@ bus_error_leaves_memory (Store s base) b m pointer address value e =
     let start = start_of base pointer address in
     missed (present m s start) (past s start) (first_missing m s start) (put_at m s (aligned s start) value) e
   where
-    missed : (t : Bool) (n first : ℕ) (x : List ℕ) → access_ending (stored_access n (cond t Whole (Short first))) ≡ Failed → cond t x m ≡ m
+    missed : (t : Bool) (n first : ℕ) (x : List ℕ) → access_ending (stored_access n (cond t (Ok tt) (Err first))) ≡ Failed → cond t x m ≡ m
     missed true n first x h = cc
     missed false n first x h = refl
 bus_error_leaves_memory (Show source) b m pointer address value e = refl

@@ -8,7 +8,6 @@ ghost use Rattle.work.specs.Work.{access_ending, change_ending, ending_of, first
 use access::Access;
 use board::{Board, Chain, Phase, Place};
 use command::{Base, Command, Source, Target};
-use control::Shown;
 use memory::Size;
 
 // What a command's work ends in.
@@ -21,17 +20,17 @@ pub enum Ending {
 }
 
 // A value goes out in as many words as the command's line of the table says.
-fn end_value(command: Command, found: Shown) -> Ending
+fn end_value(command: Command, found: Option<u32>) -> Ending
     ensures { result ≡ value_ending command found }
 {
     match found {
-        Shown::Value(value) => {
+        Some(value) => {
             if command::result_count(command) == 1 {
                 return Ending::OneWord(value);
             }
             Ending::TwoWords(value)
         }
-        Shown::BusError => Ending::Failed,
+        None => Ending::Failed,
     }
 }
 
@@ -42,7 +41,7 @@ fn end_access(access: Access) -> Ending
         Access::NoAccess => Ending::Complete,
         // An arm for each size, so that the compiler knows the count.
         Access::Fetched(size, value, _) => {
-            let found = Shown::Value(value);
+            let found = Some(value);
             match size {
                 Size::Byte => end_value(Command::Load(Size::Byte, Base::Address), found),
                 Size::Word => end_value(Command::Load(Size::Word, Base::Address), found),
@@ -74,7 +73,7 @@ pub fn find_ending(command: Command, board: Board, address: u32, access: Access)
         Command::Show(source) => match source {
             Source::General(n) => {
                 let value = control::general_of(board, n as u32);
-                end_value(Command::Show(Source::General(n)), Shown::Value(value))
+                end_value(Command::Show(Source::General(n)), Some(value))
             }
             Source::Control => {
                 end_value(
@@ -82,7 +81,7 @@ pub fn find_ending(command: Command, board: Board, address: u32, access: Access)
                     control::fetch_control(board, address),
                 )
             }
-            Source::Csr => end_value(Command::Show(Source::Csr), Shown::Value(csr::csr_of(board))),
+            Source::Csr => end_value(Command::Show(Source::Csr), Some(csr::csr_of(board))),
         },
         Command::Change(target) => match target {
             Target::General(_) => Ending::Complete,

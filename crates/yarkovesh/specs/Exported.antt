@@ -1,7 +1,6 @@
 -- What programs in other languages are answered: a run of packets on a fresh board, and the listing of a trace (01), each answer one number.
-use Rattle.std.specs.Prelude.{ℕ, ◌+◌, ◌*◌, ◌%◌, ◌^◌, ◌≡◌, List, ◌++◌, length, drop}
-use Rattle.grounds.specs.declared.Verdict.{Verdict}
-use Rattle.grounds.specs.declared.Verdict.TheVariants.{Accepted, Refused}
+use Rattle.std.specs.Prelude.{ℕ, ◌+◌, ◌*◌, ◌%◌, ◌^◌, ◌≡◌, List, ◌++◌, length, drop, Err, Ok, Result, ⊤}
+use Rattle.grounds.specs.declared.Ground.{Ground}
 use Rattle.grounds.specs.Grounds.{told, if_accepted}
 use Rattle.board.specs.Board.{fresh_board, fresh_place, making_verdict, setting_made}
 use Rattle.board.specs.State.{State, state_of}
@@ -10,18 +9,18 @@ use Rattle.trace.specs.TraceReading.{Told, refusal, counted}
 use Rattle.listing.specs.Listing.{listing, words_after}
 
 -- 0 where it is accepted, else the ground's number
-abbrev pub verdict_number : Verdict → ℕ
+abbrev pub verdict_number : Result ⊤ Ground → ℕ
 verdict_number v = (told v).number
 
 abbrev pub fresh : ℕ → List ℕ → State
 fresh w m = state_of (fresh_board (setting_made w)) fresh_place m
 
 -- the board is made before the run is judged
-abbrev pub made_first : Verdict → Verdict → Verdict
-made_first Accepted run = run
-made_first (Refused why) run = Refused why
+abbrev pub made_first : Result ⊤ Ground → Result ⊤ Ground → Result ⊤ Ground
+made_first (Ok _) run = run
+made_first (Err why) run = Err why
 
-abbrev pub fresh_verdict : ℕ → List ℕ → List ℕ → ℕ → Verdict
+abbrev pub fresh_verdict : ℕ → List ℕ → List ℕ → ℕ → Result ⊤ Ground
 fresh_verdict w m words room = made_first (making_verdict w) (run_verdict (fresh w m) words room)
 
 -- the promise of a run on a fresh board of wait setting w

@@ -9,26 +9,25 @@ ghost use Rattle.yarkovesh.specs.ExportedMend.{MendNumberMeets, UnmendNumberMeet
 ghost use Rattle.trace.specs.TraceReading.{told_listing as told};
 ghost use Rattle.mending.specs.MendingAnswer.{told_mending};
 
-use grounds::Verdict;
-use mending::Mending;
+use trace::Refused;
+use grounds::Ground;
 use summary::page;
-use trace::Listing;
 
-fn number_of(verdict: Verdict) -> u32
+fn number_of(verdict: Result<(), Ground>) -> u32
     ensures { result ≡ verdict_number verdict }
 {
     match verdict {
-        Verdict::Accepted => 0,
-        Verdict::Refused(ground) => grounds::number_of(ground),
+        Ok(()) => 0,
+        Err(ground) => grounds::number_of(ground),
     }
 }
 
-fn listing_number(listed: Listing) -> u64
+fn listing_number(listed: Result<usize, Refused>) -> u64
     ensures { result ≡ listing_number (told listed) }
 {
     match listed {
-        Listing::Items(items) => items as u64,
-        Listing::Refused { ground, cycle } => {
+        Ok(items) => items as u64,
+        Err(Refused { ground, cycle }) => {
             (grounds::number_of(ground) as u64) * 0x100000000 + (cycle as u64) % 0x100000000
         }
     }
@@ -49,12 +48,12 @@ pub extern "C" fn yarkovesh_run(
     let board = made.board;
     let place = made.place;
     match verdict {
-        Verdict::Accepted => {
+        Ok(()) => {
             let ran = run::take_packets(board, place, memory, words, replies);
             let run_verdict = ran.verdict;
             number_of(run_verdict)
         }
-        Verdict::Refused(ground) => grounds::number_of(ground),
+        Err(ground) => grounds::number_of(ground),
     }
 }
 
@@ -86,11 +85,11 @@ pub extern "C" fn yarkovesh_page(
     let page = page::make_page(trace, index);
     let judged = page.judged;
     match judged {
-        Listing::Refused {
+        Err(Refused {
             ground: _,
             cycle: _,
-        } => listing_number(judged),
-        Listing::Items(_) => {
+        }) => listing_number(judged),
+        Ok(_) => {
             let page_counts = page.counts;
             let page_firsts = page.firsts;
             let page_lasts = page.lasts;
@@ -105,12 +104,12 @@ pub extern "C" fn yarkovesh_page(
     }
 }
 
-fn mending_number(mended: Mending) -> u64
+fn mending_number(mended: Result<usize, Ground>) -> u64
     ensures { result ≡ listing_number (told_mending mended) }
 {
     match mended {
-        Mending::Changed(changed) => changed as u64,
-        Mending::Refused(ground) => (grounds::number_of(ground) as u64) * 0x100000000,
+        Ok(changed) => changed as u64,
+        Err(ground) => (grounds::number_of(ground) as u64) * 0x100000000,
     }
 }
 

@@ -1,7 +1,8 @@
 -- Events and firing (01) for programs in other languages: a fresh board of W = 0, its debug registers written, GO, then events in turn, one word to each.
-use Rattle.std.specs.Prelude.{ℕ, ◌+◌, ◌*◌, ◌≡◌, cond, List, [], ◌∷◌, ◌++◌, leb, length, drop, get_or}
+use Rattle.std.specs.Prelude.{ℕ, ◌+◌, ◌*◌, ◌≡◌, cond, List, [], ◌∷◌, ◌++◌, leb, length, drop, get_or, None, Option, Result, Some, ⊤}
+use Rattle.comparators.specs.declared.BusAccess.{BusAccess}
+use Rattle.grounds.specs.declared.Ground.{Ground}
 use Rattle.grounds.specs.declared.Ground.TheVariants.{BufferTooShort}
-use Rattle.grounds.specs.declared.Verdict.{Verdict}
 use Rattle.grounds.specs.Grounds.{check, judge, told, if_accepted}
 use Rattle.command.specs.declared.DebugRegister.{DebugRegister}
 use Rattle.command.specs.declared.DebugRegister.TheVariants.{Csr, Baar, Aatr, Tdr, Pbr, Pbmr, Abhr, Ablr, Dbr, Dbmr}
@@ -10,9 +11,6 @@ use Rattle.board.specs.declared.Board.{Board}
 use Rattle.board.specs.declared.Place.{Place}
 use Rattle.board.specs.Board.{fresh_board, fresh_place}
 use Rattle.registers.specs.Registers.{board_after}
-use Rattle.groups.specs.declared.Bus.{Bus}
-use Rattle.groups.specs.declared.Bus.TheVariants.{Idle, Carries}
-use Rattle.halting.specs.declared.Mark.TheVariants.{Absent}
 use Rattle.trigger.specs.declared.Event.{Event}
 use Rattle.bus.specs.EventAnswers.{EventTold, told_event}
 use Rattle.bus.specs.Events.{event_outcome, board_after_event}
@@ -31,12 +29,12 @@ unfoldable pub set_up : List ℕ → Board → Board
 set_up values b = board_after go (written_from registers_in_order 0 values b) 0 0
 
 -- "perhaps one access (address, attribute byte laid out as AATR's low byte, 32 data lanes)": none where the attribute is no byte
-abbrev pub bus_of : ℕ → ℕ → ℕ → Bus
-bus_of attribute address lanes = cond (leb attribute 255) (Carries (record { address = address; attribute = attribute; lanes = lanes })) Idle
+abbrev pub bus_of : ℕ → ℕ → ℕ → Option BusAccess
+bus_of attribute address lanes = cond (leb attribute 255) (Some (record { address = address; attribute = attribute; lanes = lanes })) None
 
 -- "An event is one instruction start: its PC and perhaps one access"; four words have no room for a mark
 abbrev pub event_of : ℕ → ℕ → ℕ → ℕ → Event
-event_of pc attribute address lanes = record { pc = pc; bus = bus_of attribute address lanes; mark = Absent }
+event_of pc attribute address lanes = record { pc = pc; bus = bus_of attribute address lanes; mark = None }
 
 -- the event whose four words begin at a place
 abbrev pub event_at : List ℕ → ℕ → Event
@@ -60,7 +58,7 @@ answers_to [] b p = []
 answers_to (event ∷ events) b p = answer_word (told_event (event_outcome b p event)) ∷ answers_to events (board_after_event b p event) p
 
 -- "11: the result buffer is too short": a word for each event
-abbrev pub events_verdict : List Event → ℕ → Verdict
+abbrev pub events_verdict : List Event → ℕ → Result ⊤ Ground
 events_verdict events room = judge (check (leb (length events) room) BufferTooShort ∷ [])
 
 -- the words lent, after the answers; those beyond the last stay

@@ -1,5 +1,5 @@
 -- Laws of events for programs in other languages: how many there are, how the loop over them goes on, and how large an answer's numbers are.
-use Rattle.std.specs.Prelude.{ℕ, suc, ◌+◌, ◌*◌, ◌/◌, ◌≤◌, ◌<◌, ◌≡◌, refl, Bool, true, false, cond, ◌&&◌, List, [], ◌∷◌, eqb, length, get_or, drop, set}
+use Rattle.std.specs.Prelude.{ℕ, suc, ◌+◌, ◌*◌, ◌/◌, ◌≤◌, ◌<◌, ◌≡◌, refl, Bool, true, false, cond, ◌&&◌, List, [], ◌∷◌, eqb, length, get_or, drop, set, Err, None, Ok, Option, Result, Some, ⊤}
 use Rattle.std.proofs.Common.{ap, ◌∙◌, drop-cons, le-leb}
 use Rattle.std.proofs.Math.Numerals.{add-one}
 use native.Mathlib.Omega.{arith}
@@ -11,8 +11,6 @@ use Rattle.grounds.specs.declared.Ground.{Ground}
 use Rattle.grounds.specs.declared.Ground.TheVariants.{WordTooLarge, WaitTooLarge, MemoryTooLong, EventWhileHalted, OddPc, ReservedSize, TraceTooLong}
 use Rattle.grounds.specs.declared.Ground.TheVariants.{ReservedPst, MarkerTooSoon, TraceCutShort, BufferTooShort, StateOutOfRange, RequestOutOfRange}
 use Rattle.grounds.specs.declared.Ground.TheVariants.{ImpossibleReply}
-use Rattle.grounds.specs.declared.Verdict.{Verdict}
-use Rattle.grounds.specs.declared.Verdict.TheVariants.{Accepted, Refused}
 use Rattle.grounds.specs.Grounds.{number}
 use Rattle.board.specs.declared.Board.{Board}
 use Rattle.board.specs.declared.Place.{Place}
@@ -22,11 +20,8 @@ use Rattle.board.specs.Board.{fresh_board, fresh_place, MakingMeets}
 use Rattle.trigger.specs.declared.Event.{Event}
 use Rattle.trigger.specs.Levels.{level_one, level_two}
 use Rattle.trigger.specs.Fired.{fires, fired_level}
-use Rattle.firing.specs.declared.Captured.{Captured}
-use Rattle.firing.specs.declared.Captured.TheVariants.{Nothing, Pc}
 use Rattle.firing.specs.declared.Seen.{Seen}
 use Rattle.firing.specs.Firing.{firing, seen}
-use Rattle.bus.specs.declared.EventOutcome.{EventOutcome}
 use Rattle.bus.specs.EventAnswers.{told_captured, told_event}
 use Rattle.bus.specs.Events.{event_verdict, event_outcome_by, event_outcome, board_after_event}
 use Rattle.yarkovesh_events.specs.ExportedEvents.{set_up, event_at, events_of, answer_word, answers_to, EventsMeet}
@@ -63,17 +58,17 @@ level_at_most_2 b p event =
     by_verdict (event_verdict b p event) (seen b.status b.debug event (firing b.status b.debug event))
     (fired_at_most_2 b.status.bstat b.debug event)
   where
-    by_verdict : (v : Verdict) (s : Seen) → s.level ≤ 2 → (told_event (event_outcome_by v s)).level ≤ 2
-    by_verdict Accepted s h = h
-    by_verdict (Refused g) s h = omega arith
+    by_verdict : (v : Result ⊤ Ground) (s : Seen) → s.level ≤ 2 → (told_event (event_outcome_by v s)).level ≤ 2
+    by_verdict (Ok _) s h = h
+    by_verdict (Err g) s h = omega arith
 
 pub value_if_at_most : (x : Bool) (v : ℕ) → cond x v 0 ≤ v
 value_if_at_most true v = omega arith
 value_if_at_most false v = omega arith
 
-pub captured_at_most_1 : (c : Captured) → length (told_captured c) ≤ 1
-captured_at_most_1 Nothing = omega arith
-captured_at_most_1 (Pc pc) = omega arith
+pub captured_at_most_1 : (c : Option ℕ) → length (told_captured c) ≤ 1
+captured_at_most_1 None = omega arith
+captured_at_most_1 (Some pc) = omega arith
 
 -- four words an event
 pub events_counted : (words : List ℕ) → length (events_of words) ≡ length words / 4
@@ -115,7 +110,7 @@ no_event (pc ∷ attribute ∷ address ∷ lanes ∷ words) h = absurd (omega ar
 
 -- one event more: its answer is put at its place, and the rest are answered on the board that it leaves
 module _ (words out : List ℕ) (i : ℕ) (b : Board) (p : Place) where
-  pub answers_on : (outcome : EventOutcome) {event : Event} {word : ℕ} {next : Board} → i < length words / 4 → event ≡ event_at words (i * 4)
+  pub answers_on : (outcome : Result Seen Ground) {event : Event} {word : ℕ} {next : Board} → i < length words / 4 → event ≡ event_at words (i * 4)
       → word ≡ answer_word (told_event outcome) → told_event outcome ≡ told_event (event_outcome b p event) → next ≡ board_after_event b p event
       → sets (set out i word) (i + 1) (answers_to (events_of (drop ((i + 1) * 4) words)) next p) ≡ sets out i (answers_to (events_of (drop (i * 4) words)) b p)
   unfolding answers_to

@@ -8,14 +8,11 @@ ghost use Rattle.registers.specs.Registers.{board_after};
 ghost use Rattle.bus.specs.EventAnswers.{told_captured, told_event};
 ghost use Rattle.yarkovesh_events.specs.ExportedEvents.{set_up, bus_of, event_at, events_of, answer_word, answers_to, EventsMeet};
 
+use firing::Seen;
 use board::{Board, Place};
-use bus::EventOutcome;
 use command::{Command, DebugRegister, Target};
 use comparators::BusAccess;
-use firing::Captured;
 use grounds::Ground;
-use groups::Bus;
-use halting::Mark;
 use trigger::Event;
 
 fn write(board: Board, register: DebugRegister, value: u32) -> Board
@@ -41,17 +38,17 @@ fn set_up(board: Board, values: &[u32; 10]) -> Board
     registers::board_after(Command::Change(Target::Run), b, 0, 0)
 }
 
-fn bus_of(attribute: u32, address: u32, lanes: u32) -> Bus
+fn bus_of(attribute: u32, address: u32, lanes: u32) -> Option<BusAccess>
     ensures { result ≡ bus_of attribute address lanes }
 {
     if attribute <= 255 {
-        return Bus::Carries(BusAccess {
+        return Some(BusAccess {
             address: address,
             attribute: attribute as u8,
             lanes: lanes,
         });
     }
-    Bus::Idle
+    None
 }
 
 fn read_event(words: &[u32], at: usize) -> Event
@@ -63,7 +60,7 @@ fn read_event(words: &[u32], at: usize) -> Event
     Event {
         pc: pc,
         bus: bus,
-        mark: Mark::Absent,
+        mark: None,
     }
 }
 
@@ -76,22 +73,22 @@ fn value_if(holds: bool, value: u32) -> u32
     0
 }
 
-fn count_captured(captured: Captured) -> u32
+fn count_captured(captured: Option<u32>) -> u32
     ensures { result ≡ length (told_captured captured) }
 {
     match captured {
-        Captured::Nothing => 0,
-        Captured::Pc(_) => 1,
+        None => 0,
+        Some(_) => 1,
     }
 }
 
-fn word_of(outcome: EventOutcome) -> u32
+fn word_of(outcome: Result<Seen, Ground>) -> u32
     requires { (told_event outcome).level ≤ 2 }
     ensures { result ≡ answer_word (told_event outcome) }
 {
     match outcome {
-        EventOutcome::Refused(ground) => grounds::number_of(ground) * 256,
-        EventOutcome::Taken(seen) => {
+        Err(ground) => grounds::number_of(ground) * 256,
+        Ok(seen) => {
             let captured = seen.captured;
             let halted = value_if(seen.halted, 4);
             let interrupt = value_if(seen.interrupt, 8);

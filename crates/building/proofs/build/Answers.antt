@@ -1,7 +1,7 @@
+use Rattle.std.specs.Prelude.{Err, Ok}
 use native.Mathlib.Omega.{arith}
 use mathlib.Core.Path.{◌≡◌}
 use lib.ListN.{length}
-use Rattle.grounds.specs.declared.Verdict.TheVariants.{Accepted, Refused}
 use Rattle.grounds.specs.declared.Ground.TheVariants.{BufferTooShort}
 use Rattle.building.specs.RequestWords.{built_words}
 use Rattle.laws.specs.StoreLaws.{sets_front}
@@ -13,7 +13,7 @@ use Rattle.building.proofs.build.Goals as goal
 pub returns-then-count-words : goal.returns-then-count-words
 returns-then-count-words c = let given = c.args in
     let counted = c.word_count-count.ensures in
-    let accepted : building_verdict given.request (length given.words.now) ≡ Accepted =
+    let accepted : building_verdict given.request (length given.words.now) ≡ Ok tt =
     rw (
       ← c.is_in_range.ensures,
       c.if-is_in_range.true,
@@ -28,7 +28,7 @@ returns-then-count-words c = let given = c.args in
 
 pub returns-then-is_in_range : goal.returns-then-is_in_range
 returns-then-is_in_range c = let given = c.args in
-    let refused : building_verdict given.request (length given.words.now) ≡ Refused BufferTooShort =
+    let refused : building_verdict given.request (length given.words.now) ≡ Err BufferTooShort =
     rw (← c.is_in_range.ensures, c.if-is_in_range.true, ← c.word_count-count.ensures, lt-leb _ _ c.if-count-words.false)
     in
     record { answer = rw refused; buffer = rw refused }

@@ -7,14 +7,14 @@ use Rattle.exchange.proofs.exchange.Goals as goal
 
 pub rest_and_converse-requires : goal.rest_and_converse-requires
 rest_and_converse-requires c = let at = c.args in
-    let accepted = sym c.judge_exchange.ensures ∙ c.in-Accepted.is in
+    let accepted = sym c.judge_exchange.ensures ∙ c.in-Ok.is in
     let within = accepted_is_within at.request (state_of at.board at.place at.memory.now) accepted in
     (typed_is_sound c.note_types.ensures within.state within.memory, within.asked)
 
-pub returns-in-Accepted : goal.returns-in-Accepted
-returns-in-Accepted c = let accepted = sym c.judge_exchange.ensures ∙ c.in-Accepted.is in
+pub returns-in-Ok : goal.returns-in-Ok
+returns-in-Ok c = let accepted = sym c.judge_exchange.ensures ∙ c.in-Ok.is in
     let met = c.rest_and_converse.ensures in
     record { answer = rw accepted (ap told_exchange met.0); state = rw accepted met.1 }
 
-pub returns-in-Refused : goal.returns-in-Refused
-returns-in-Refused c = let refused = sym c.judge_exchange.ensures ∙ c.in-Refused.is in record { answer = rw refused; state = rw refused }
+pub returns-in-Err : goal.returns-in-Err
+returns-in-Err c = let refused = sym c.judge_exchange.ensures ∙ c.in-Err.is in record { answer = rw refused; state = rw refused }

@@ -1,25 +1,25 @@
 use mathlib.Core.List.{[]}
 use Rattle.gateway.proofs.visit_gateway.Goals as goal
 
-pub returns-in-Refused : goal.returns-in-Refused
-returns-in-Refused c = record {
+pub returns-in-Err : goal.returns-in-Err
+returns-in-Err c = record {
   brought = [];
-  sent = rw (← c.start-started.ensures, c.in-Refused.is);
+  sent = rw (← c.start-started.ensures, c.in-Err.is);
   told = rw (
     ← c.start-started.ensures,
-    c.in-Refused.is,
+    c.in-Err.is,
   ) c.tell_unclear.ensures;
 }
 
-pub returns-in-Begun : goal.returns-in-Begun
-returns-in-Begun c = let held = c.hold_visit.ensures in record {
+pub returns-in-Ok : goal.returns-in-Ok
+returns-in-Ok c = let held = c.hold_visit.ensures in record {
   brought = held.brought;
   sent = rw (
     ← c.start-started.ensures,
-    c.in-Begun.is,
+    c.in-Ok.is,
   ) held.sent;
   told = rw (
     ← c.start-started.ensures,
-    c.in-Begun.is,
+    c.in-Ok.is,
   ) held.told;
 }

@@ -1,7 +1,7 @@
 use Rattle.groups.proofs.holds_address.Goals as goal
 
-pub returns-in-Idle : goal.returns-in-Idle
-returns-in-Idle c = rw c.in-Idle.is
+pub returns-in-None : goal.returns-in-None
+returns-in-None c = rw c.in-None.is
 
-pub returns-in-Carries : goal.returns-in-Carries
-returns-in-Carries c = rw (c.in-Carries.is, ← c.matches_address-address.ensures, ← c.agrees_attribute-attribute.ensures, ← c.holds_data-held.ensures)
+pub returns-in-Some : goal.returns-in-Some
+returns-in-Some c = rw (c.in-Some.is, ← c.matches_address-address.ensures, ← c.agrees_attribute-attribute.ensures, ← c.holds_data-held.ensures)

@@ -1,10 +1,10 @@
 use Rattle.halting.specs.Halting.{halting}
 use Rattle.halting.proofs.judge.Goals as goal
 
-pub returns-in-Absent : goal.returns-in-Absent
+pub returns-in-None : goal.returns-in-None
 unfolding halting
-returns-in-Absent c = rw c.in-Absent.is
+returns-in-None c = rw c.in-None.is
 
-pub returns-in-Halt : goal.returns-in-Halt
+pub returns-in-Some : goal.returns-in-Some
 unfolding halting
-returns-in-Halt c = rw (c.in-Halt.is, ← c.halt_at.ensures)
+returns-in-Some c = rw (c.in-Some.is, ← c.halt_at.ensures)

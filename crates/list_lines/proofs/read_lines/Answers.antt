@@ -9,16 +9,16 @@ use Rattle.list_lines.proofs.read_lines.Goals as goal
 pub loop-k-init : goal.loop-k-init
 loop-k-init c = (omega arith, omega arith, refl, all_remain _ _ _)
 
-pub returns-in-Unread : goal.returns-in-Unread
-returns-in-Unread c = stops c.loop-k.invariant.3 c.loop-k-test.true (sym (rw c.rest.ensures at c.read_line-line.ensures) ∙ c.in-Unread.is)
+pub returns-in-None : goal.returns-in-None
+returns-in-None c = stops c.loop-k.invariant.3 c.loop-k-test.true (sym (rw c.rest.ensures at c.read_line-line.ensures) ∙ c.in-None.is)
 
 pub overflow_add-at : goal.overflow_add-at
 overflow_add-at c = let w = c.loop-k in
-    omega (arith, line_took _ _ _ (sym (rw c.rest.ensures at c.read_line-line.ensures) ∙ c.in-Read.is), length-drop w.at c.args.bytes.now)
+    omega (arith, line_took _ _ _ (sym (rw c.rest.ensures at c.read_line-line.ensures) ∙ c.in-Some.is), length-drop w.at c.args.bytes.now)
 
 pub loop-k-preserved : goal.loop-k-preserved
 loop-k-preserved c = let w = c.loop-k in
-    let line = sym (rw c.rest.ensures at c.read_line-line.ensures) ∙ c.in-Read.is in (
+    let line = sym (rw c.rest.ensures at c.read_line-line.ensures) ∙ c.in-Some.is in (
       omega arith,
       omega (arith, line_took _ _ _ line, length-drop w.at c.args.bytes.now),
       search rules,

@@ -12,26 +12,26 @@ returns-in_default c = rw (no_cycles _ _ (sym c.read_named-first.ensures ∙ c.i
 
 pub returns-in_default-second : goal.returns-in_default-second
 returns-in_default-second c = let none = sym (rw c.rest.ensures at c.read_named-second.ensures) ∙ c.in_default-second.is in
-    rw (no_changed _ _ (sym c.read_named-first.ensures ∙ c.in-Read.is) none) (none_met [] _ c.no_list-in_default-second.ensures refl)
+    rw (no_changed _ _ (sym c.read_named-first.ensures ∙ c.in-Some.is) none) (none_met [] _ c.no_list-in_default-second.ensures refl)
 
 pub returns-then-list-changed : goal.returns-then-list-changed
-returns-then-list-changed c = let one = sym c.read_named-first.ensures ∙ c.in-Read.is in
-    let two = sym (rw c.rest.ensures at c.read_named-second.ensures) ∙ c.in-Read-second.is in
+returns-then-list-changed c = let one = sym c.read_named-first.ensures ∙ c.in-Some.is in
+    let two = sym (rw c.rest.ensures at c.read_named-second.ensures) ∙ c.in-Some-second.is in
     rw (no_places (length c.args.list.now) _ one two (search rules)) (none_met [] _ c.no_list-then-list-changed.ensures refl)
 
 pub overflow_add-used : goal.overflow_add-used
 overflow_add-used c = let bytes = c.args.bytes.now in
-    let one = named_took _ _ _ _ _ _ (sym c.read_named-first.ensures ∙ c.in-Read.is) in
-    let two = named_took _ _ _ _ _ _ (sym (rw c.rest.ensures at c.read_named-second.ensures) ∙ c.in-Read-second.is) in
-    omega (arith, one, two, length-drop c.in-Read.used bytes)
+    let one = named_took _ _ _ _ _ _ (sym c.read_named-first.ensures ∙ c.in-Some.is) in
+    let two = named_took _ _ _ _ _ _ (sym (rw c.rest.ensures at c.read_named-second.ensures) ∙ c.in-Some-second.is) in
+    omega (arith, one, two, length-drop c.in-Some.used bytes)
 
 pub read_changes-requires : goal.read_changes-requires
 read_changes-requires c = let bytes = c.args.bytes.now in
-    let one = named_took _ _ _ _ _ _ (sym c.read_named-first.ensures ∙ c.in-Read.is) in
-    let two = named_took _ _ _ _ _ _ (sym (rw c.rest.ensures at c.read_named-second.ensures) ∙ c.in-Read-second.is) in
-    (search rules, omega (arith, one, two, length-drop c.in-Read.used bytes))
+    let one = named_took _ _ _ _ _ _ (sym c.read_named-first.ensures ∙ c.in-Some.is) in
+    let two = named_took _ _ _ _ _ _ (sym (rw c.rest.ensures at c.read_named-second.ensures) ∙ c.in-Some-second.is) in
+    (search rules, omega (arith, one, two, length-drop c.in-Some.used bytes))
 
 pub returns : goal.returns
-returns c = let one = sym c.read_named-first.ensures ∙ c.in-Read.is in
-    let two = sym (rw c.rest.ensures at c.read_named-second.ensures) ∙ c.in-Read-second.is in
+returns c = let one = sym c.read_named-first.ensures ∙ c.in-Some.is in
+    let two = sym (rw c.rest.ensures at c.read_named-second.ensures) ∙ c.in-Some-second.is in
     rw (some_lines (length c.args.list.now) _ one two (search rules)) c.read_changes.ensures

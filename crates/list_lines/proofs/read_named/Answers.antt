@@ -7,19 +7,19 @@ use Rattle.list_lines.proofs.read_named.Goals as goal
 
 pub overflow_add-result : goal.overflow_add-result
 overflow_add-result c = let a = c.args in
-    let took = number_took _ _ _ _ _ (sym (rw c.rest.ensures at c.read_number-read.ensures) ∙ c.in-Read.is) in
+    let took = number_took _ _ _ _ _ (sym (rw c.rest.ensures at c.read_number-read.ensures) ∙ c.in-Some.is) in
     omega (arith, took.within, length-drop (length a.name.now) a.bytes.now)
 
-pub returns-in-Read : goal.returns-in-Read
+pub returns-in-Some : goal.returns-in-Some
 unfolding named
-returns-in-Read c = let name = sym (rw c.front.ensures at c.is_same.ensures) ∙ c.if-is_same.true in
-    let read = sym (rw c.rest.ensures at c.read_number-read.ensures) ∙ c.in-Read.is in
+returns-in-Some c = let name = sym (rw c.front.ensures at c.is_same.ensures) ∙ c.if-is_same.true in
+    let read = sym (rw c.rest.ensures at c.read_number-read.ensures) ∙ c.in-Some.is in
     rw (name, read)
 
-pub returns-in-Unread : goal.returns-in-Unread
+pub returns-in-None : goal.returns-in-None
 unfolding named
-returns-in-Unread c = let name = sym (rw c.front.ensures at c.is_same.ensures) ∙ c.if-is_same.true in
-    let read = sym (rw c.rest.ensures at c.read_number-read.ensures) ∙ c.in-Unread.is in
+returns-in-None c = let name = sym (rw c.front.ensures at c.is_same.ensures) ∙ c.if-is_same.true in
+    let read = sym (rw c.rest.ensures at c.read_number-read.ensures) ∙ c.in-None.is in
     rw (name, read)
 
 pub returns : goal.returns

@@ -12,23 +12,23 @@ use Rattle.listing.proofs.list_from.Goals as goal
 
 pub returns-then-out-count : goal.returns-then-out-count
 returns-then-out-count c = let a = c.args in
-    let reads = sym c.judge_from-judged.ensures ∙ ap told_listing c.in-Items.is in
-    let e = read_from a.trace.now a.from a.found (length a.out.now) c.in-Items.count reads in
+    let reads = sym c.judge_from-judged.ensures ∙ ap told_listing c.in-Ok.is in
+    let e = read_from a.trace.now a.from a.found (length a.out.now) c.in-Ok.count reads in
     listing_meets _ _ _ _ _ _ (sym (e.1 ∙ short_so _ _ _ (omega (arith, e.0)))) refl
 
 pub put_from-requires : goal.put_from-requires
 put_from-requires c = let a = c.args in
-    let e = sym c.judge_from-judged.ensures ∙ ap told_listing c.in-Items.is in
+    let e = sym c.judge_from-judged.ensures ∙ ap told_listing c.in-Ok.is in
     let xs = items_to_end a.trace.now a.from a.found in
-    (read_short _ _ _ c.in-Items.count e, omega (arith, (read_from a.trace.now a.from a.found 0 c.in-Items.count e).0, length_words xs))
+    (read_short _ _ _ c.in-Ok.count e, omega (arith, (read_from a.trace.now a.from a.found 0 c.in-Ok.count e).0, length_words xs))
 
-pub returns-in-Refused : goal.returns-in-Refused
-returns-in-Refused c = listing_meets _ _ _ _ _ _ (sym (refused_from _ _ _ _ _ _ (sym c.judge_from-judged.ensures ∙ ap told_listing c.in-Refused.is))) refl
+pub returns-in-Err : goal.returns-in-Err
+returns-in-Err c = listing_meets _ _ _ _ _ _ (sym (refused_from _ _ _ _ _ _ (sym c.judge_from-judged.ensures ∙ ap told_listing c.in-Err.is))) refl
 
 pub returns-else-out-count : goal.returns-else-out-count
 returns-else-out-count c = let a = c.args in
-    let reads = sym c.judge_from-judged.ensures ∙ ap told_listing c.in-Items.is in
-    let e = read_from a.trace.now a.from a.found (length a.out.now) c.in-Items.count reads in
+    let reads = sym c.judge_from-judged.ensures ∙ ap told_listing c.in-Ok.is in
+    let e = read_from a.trace.now a.from a.found (length a.out.now) c.in-Ok.count reads in
     let xs = items_to_end a.trace.now a.from a.found in
     listing_meets _ _ _ _ _ _
     (ap counted e.0 ∙ sym (e.1 ∙ room_so _ _ _ (omega (arith, e.0))))

@@ -7,17 +7,17 @@ use Rattle.mend_text.proofs.tell_mended.Goals as goal
 
 pub slice_bounds-put_list-end : goal.slice_bounds-put_list-end
 slice_bounds-put_list-end c = let m = c.mend_trace-answer.ensures in
-    let verdict = sym m.answer ∙ ap told_mending c.in-Changed.is in
+    let verdict = sym m.answer ∙ ap told_mending c.in-Ok.is in
     (list_put m verdict).fits
 
-pub slice_bounds-put_list-end-in-Changed : goal.slice_bounds-put_list-end-in-Changed
-slice_bounds-put_list-end-in-Changed c = let m = c.mend_trace-answer.ensures in
-    let verdict = sym m.answer ∙ ap told_mending c.in-Changed.is in
+pub slice_bounds-put_list-end-in-Ok : goal.slice_bounds-put_list-end-in-Ok
+slice_bounds-put_list-end-in-Ok c = let m = c.mend_trace-answer.ensures in
+    let verdict = sym m.answer ∙ ap told_mending c.in-Ok.is in
     sym (length-take-le _ _ (list_put m verdict).fits)
 
-pub returns-in-Refused : goal.returns-in-Refused
-returns-in-Refused c = let m = c.mend_trace-answer.ensures in
-    let verdict = sym m.answer ∙ ap told_mending c.in-Refused.is in
+pub returns-in-Err : goal.returns-in-Err
+returns-in-Err c = let m = c.mend_trace-answer.ensures in
+    let verdict = sym m.answer ∙ ap told_mending c.in-Err.is in
     record {
       told = rw verdict (c.put_refusal-at.ensures then c.put_byte-end.ensures);
       writes = rw verdict;
@@ -25,9 +25,9 @@ returns-in-Refused c = let m = c.mend_trace-answer.ensures in
       list = m.list;
     }
 
-pub returns-in-Changed : goal.returns-in-Changed
-returns-in-Changed c = let m = c.mend_trace-answer.ensures in
-    let verdict = sym m.answer ∙ ap told_mending c.in-Changed.is in
+pub returns-in-Ok : goal.returns-in-Ok
+returns-in-Ok c = let m = c.mend_trace-answer.ensures in
+    let verdict = sym m.answer ∙ ap told_mending c.in-Ok.is in
     record {
       told = rw verdict (rw (list_put m verdict).list at c.put_list-end.ensures);
       writes = rw verdict;

@@ -1,8 +1,8 @@
 use Rattle.pod_lines.specs.PodLineLaws.{as_meant, says_unclear}
 use Rattle.pod_lines.proofs.read_reading.Goals as goal
 
-pub returns-in-At : goal.returns-in-At
-returns-in-At c = as_meant (rw (c.in-For.is, c.in-At.is)) c.take_replies.ensures
+pub returns-in-Some : goal.returns-in-Some
+returns-in-Some c = as_meant (rw (c.in-Some.is, c.in-Some.is)) c.take_replies.ensures
 
-pub returns-in-NoColon : goal.returns-in-NoColon
-returns-in-NoColon c = as_meant (rw (c.in-For.is, c.in-NoColon.is)) (says_unclear _)
+pub returns-in-None : goal.returns-in-None
+returns-in-None c = as_meant (rw (c.in-Some.is, c.in-None.is)) (says_unclear _)

@@ -16,19 +16,19 @@ returns-then-line-start c = as_meant (rw (no_word c.args.line.now 0 c.word_start
 pub slice_bounds-is_same-end : goal.slice_bounds-is_same-end
 slice_bounds-is_same-end c = (word_bounds c.args.line.now 0 c.word_start-start.result c.word_start-start.ensures c.word_end-stop.result c.if-line-start.false c.word_end-stop.ensures).2
 
-pub returns-in-For : goal.returns-in-For
+pub returns-in-Some : goal.returns-in-Some
 unfolding pod_words
-returns-in-For c = let cut = next_word c.args.line.now 0 c.word_start-start.result
+returns-in-Some c = let cut = next_word c.args.line.now 0 c.word_start-start.result
     c.word_start-start.ensures c.word_end-stop.result c.if-line-start.false
     c.word_end-stop.ensures in
-    as_meant (rw (cut, ← c.is_same.ensures, c.if-is_same.true, ← c.read_request.ensures, c.in-For.is)) (says_build _ _)
+    as_meant (rw (cut, ← c.is_same.ensures, c.if-is_same.true, ← c.read_request.ensures, c.in-Some.is)) (says_build _ _)
 
-pub returns-in-NoRequest : goal.returns-in-NoRequest
+pub returns-in-None : goal.returns-in-None
 unfolding pod_words
-returns-in-NoRequest c = let cut = next_word c.args.line.now 0 c.word_start-start.result
+returns-in-None c = let cut = next_word c.args.line.now 0 c.word_start-start.result
     c.word_start-start.ensures c.word_end-stop.result c.if-line-start.false
     c.word_end-stop.ensures in
-    as_meant (rw (cut, ← c.is_same.ensures, c.if-is_same.true, ← c.read_request.ensures, c.in-NoRequest.is)) (says_unclear _)
+    as_meant (rw (cut, ← c.is_same.ensures, c.if-is_same.true, ← c.read_request.ensures, c.in-None.is)) (says_unclear _)
 
 pub returns-then-is_same-2 : goal.returns-then-is_same-2
 unfolding pod_words

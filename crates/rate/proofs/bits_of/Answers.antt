@@ -1,4 +1,4 @@
 use Rattle.rate.proofs.bits_of.Goals as goal
 
-pub returns-in-Average : goal.returns-in-Average
-returns-in-Average c = rw c.in-Average.is c.pattern_of.ensures
+pub returns-in-Some : goal.returns-in-Some
+returns-in-Some c = rw c.in-Some.is c.pattern_of.ensures

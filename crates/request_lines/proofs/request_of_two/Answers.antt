@@ -1,7 +1,7 @@
 use Rattle.request_lines.proofs.request_of_two.Goals as goal
 
-pub returns-in-Of : goal.returns-in-Of
-returns-in-Of c = rw (← c.size_behind.ensures, c.in-Of.is)
+pub returns-in-Some : goal.returns-in-Some
+returns-in-Some c = rw (← c.size_behind.ensures, c.in-Some.is)
 
-pub returns-in-NoSize : goal.returns-in-NoSize
-returns-in-NoSize c = rw (← c.size_behind.ensures, c.in-NoSize.is, ← c.register_written.ensures)
+pub returns-in-None : goal.returns-in-None
+returns-in-None c = rw (← c.size_behind.ensures, c.in-None.is, ← c.register_written.ensures)

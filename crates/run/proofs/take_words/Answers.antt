@@ -9,7 +9,7 @@ use Rattle.step.specs.StepFaultLaws.{none_cleared}
 use Rattle.step.proofs.NoWork.{no_work}
 use Rattle.run.specs.RunLaws.{stepped_as, goes_on, ran_out, written_out}
 use Rattle.run.specs.ShortWayLaws.{short_way_step}
-use Rattle.run.proofs.take_words.Goals.{in-NoFault, in-FaultAt}
+use Rattle.run.proofs.take_words.Goals.{in-None, in-Some}
 use Rattle.run.proofs.take_words.Goals as goal
 
 pub loop-i-init : goal.loop-i-init
@@ -46,8 +46,8 @@ loop-i-preserved-in_default c = let at = c.loop-i in
     let before = state_of at.b at.p at.memory in
     let cleared : state_of c.match-held.b at.p at.memory ≡ word_taken before word =
     elim c.match-held.branch [
-      | in-NoFault w ↦ ap (λ b. state_of b at.p at.memory) w.b-is ∙ none_cleared before word w.in-NoFault.is
-      | in-FaultAt w ↦ ap (λ b. state_of b at.p at.memory) (w.b-is ∙ w.set_fault-b.ensures) ∙ ap (λ f. state_of (with_fault at.b f) at.p at.memory) c.after_word-fault.ensures
+      | in-None w ↦ ap (λ b. state_of b at.p at.memory) w.b-is ∙ none_cleared before word w.in-None.is
+      | in-Some w ↦ ap (λ b. state_of b at.p at.memory) (w.b-is ∙ w.set_fault-b.ensures) ∙ ap (λ f. state_of (with_fault at.b f) at.p at.memory) c.after_word-fault.ensures
     ] in
     let plan = c.plan_for-plan in
     let step = stepped_as at.b at.p at.memory word plan.ensures

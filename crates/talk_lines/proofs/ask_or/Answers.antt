@@ -1,7 +1,7 @@
 use Rattle.talk_lines.proofs.ask_or.Goals as goal
 
-pub returns-in-For : goal.returns-in-For
-returns-in-For c = rw c.in-For.is
+pub returns-in-Some : goal.returns-in-Some
+returns-in-Some c = rw c.in-Some.is
 
-pub returns-in-NoRequest : goal.returns-in-NoRequest
-returns-in-NoRequest c = rw c.in-NoRequest.is
+pub returns-in-None : goal.returns-in-None
+returns-in-None c = rw c.in-None.is

@@ -15,22 +15,22 @@ loop-item-init c = (refl, c.requires.start_meets.1, rw (start_rest _ _ c.require
 pub word_of-requires : goal.word_of-requires
 word_of-requires c = let a = c.args in
     let w = c.loop-item in
-    let e = ap (λ (t : Step). t.handed) (sym c.next_item-step.ensures) ∙ c.in-Item.is in
-    omega (arith, handed_within a.trace.now w.cursor c.in-Item.item e, c.requires.trace_fits)
+    let e = ap (λ (t : Step). t.handed) (sym c.next_item-step.ensures) ∙ c.in-Ok-Some.is in
+    omega (arith, handed_within a.trace.now w.cursor c.in-Ok-Some.item e, c.requires.trace_fits)
 
 pub loop-item-smaller : goal.loop-item-smaller
 loop-item-smaller c = let a = c.args in
     let w = c.loop-item in
     let step = c.next_item-step.ensures in
-    let e = ap (λ (t : Step). t.handed) (sym step) ∙ c.in-Item.is in
-    rw step (rest_falls a.trace.now w.cursor c.in-Item.item e)
+    let e = ap (λ (t : Step). t.handed) (sym step) ∙ c.in-Ok-Some.is in
+    rw step (rest_falls a.trace.now w.cursor c.in-Ok-Some.item e)
 
 pub loop-item-preserved : goal.loop-item-preserved
 loop-item-preserved c = let a = c.args in
     let w = c.loop-item in
     let step = c.next_item-step.ensures in
-    let e = ap (λ (t : Step). t.handed) (sym step) ∙ c.in-Item.is in
-    let first = item_first a.trace.now w.cursor w.invariant.1 c.in-Item.item e in (
+    let e = ap (λ (t : Step). t.handed) (sym step) ∙ c.in-Ok-Some.is in
+    let first = item_first a.trace.now w.cursor w.invariant.1 c.in-Ok-Some.item e in (
       search rules,
       rw step (stays_good a.trace.now w.cursor w.invariant.1),
       rw step (gathers_line (rw first at w.invariant.2) (rw c.word_of.ensures at c.add_item-at.ensures)),

@@ -24,7 +24,7 @@ slice_bounds-words-end c = let met = c.mend_trace-answer.ensures in
     let room : length (replicate {A = ℕ} 65536 0) ≡ 65536 = length-replicate {A = ℕ} 65536 0 in
     let m = mended_into met short (omega (arith, room)) (omega (arith, room)) in
     let recorded = c.args.recorded.now in
-    omega (arith, changed_count m c.in-Changed.is, changes_at_most recorded (length recorded))
+    omega (arith, changed_count m c.in-Ok.is, changes_at_most recorded (length recorded))
 
 pub slice_bounds-is_same_list-end : goal.slice_bounds-is_same_list-end
 slice_bounds-is_same_list-end c = let met = c.mend_trace-answer.ensures in
@@ -32,7 +32,7 @@ slice_bounds-is_same_list-end c = let met = c.mend_trace-answer.ensures in
     let room : length (replicate {A = ℕ} 65536 0) ≡ 65536 = length-replicate {A = ℕ} 65536 0 in
     let m = mended_into met short (omega (arith, room)) (omega (arith, room)) in
     let recorded = c.args.recorded.now in
-    sym (length-take-le _ _ (omega (arith, changed_count m c.in-Changed.is, changes_at_most recorded (length recorded))))
+    sym (length-take-le _ _ (omega (arith, changed_count m c.in-Ok.is, changes_at_most recorded (length recorded))))
 
 pub returns-then-is_same : goal.returns-then-is_same
 returns-then-is_same c = let met = c.mend_trace-answer.ensures in
@@ -40,15 +40,15 @@ returns-then-is_same c = let met = c.mend_trace-answer.ensures in
     let room : length (replicate {A = ℕ} 65536 0) ≡ 65536 = length-replicate {A = ℕ} 65536 0 in
     let m = mended_into met short (omega (arith, room)) (omega (arith, room)) in
     let a = c.args in
-    let compared = both_compared a.trace.now a.list.now m c.in-Changed.is in
+    let compared = both_compared a.trace.now a.list.now m c.in-Ok.is in
     c.is_same_list.ensures ∙ rw (sym c.is_same.ensures ∙ c.if-is_same.true) at compared
 
-pub returns-in-Refused : goal.returns-in-Refused
-returns-in-Refused c = let met = c.mend_trace-answer.ensures in
+pub returns-in-Err : goal.returns-in-Err
+returns-in-Err c = let met = c.mend_trace-answer.ensures in
     let short = c.requires in
     let room : length (replicate {A = ℕ} 65536 0) ≡ 65536 = length-replicate {A = ℕ} 65536 0 in
     let m = mended_into met short (omega (arith, room)) (omega (arith, room)) in
-    let z : ◌≡◌ {A = ℕ} 0 1 = cc (m.answer, c.in-Refused.is) in
+    let z : ◌≡◌ {A = ℕ} 0 1 = cc (m.answer, c.in-Err.is) in
     absurd (omega arith)
 
 pub returns-else-is_same : goal.returns-else-is_same
@@ -57,5 +57,5 @@ returns-else-is_same c = let met = c.mend_trace-answer.ensures in
     let room : length (replicate {A = ℕ} 65536 0) ≡ 65536 = length-replicate {A = ℕ} 65536 0 in
     let m = mended_into met short (omega (arith, room)) (omega (arith, room)) in
     let a = c.args in
-    let compared = both_compared a.trace.now a.list.now m c.in-Changed.is in
+    let compared = both_compared a.trace.now a.list.now m c.in-Ok.is in
     rw (sym c.is_same.ensures ∙ c.if-is_same.false) at compared

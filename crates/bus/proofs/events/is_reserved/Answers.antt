@@ -1,4 +1,4 @@
 use Rattle.bus.proofs.events.is_reserved.Goals as goal
 
-pub returns-in-Carries : goal.returns-in-Carries
-returns-in-Carries c = rw (c.in-Carries.is, ← c.size_field.ensures)
+pub returns-in-Some : goal.returns-in-Some
+returns-in-Some c = rw (c.in-Some.is, ← c.size_field.ensures)

@@ -2,8 +2,8 @@ use mathlib.Core.Path.{sym, ◌∙◌}
 use Rattle.numbers.specs.NumberLaws.{numeral_value, numeral_none}
 use Rattle.pod_lines.proofs.taking.value_of.Goals as goal
 
-pub returns-in-Value : goal.returns-in-Value
-returns-in-Value c = sym (numeral_value c.args.word.now _ (sym c.read_number.ensures ∙ c.in-Value.is)).1
+pub returns-in-Some : goal.returns-in-Some
+returns-in-Some c = sym (numeral_value c.args.word.now _ (sym c.read_number.ensures ∙ c.in-Some.is)).1
 
-pub returns-in-NoNumber : goal.returns-in-NoNumber
-returns-in-NoNumber c = let none = numeral_none c.args.word.now (sym c.read_number.ensures ∙ c.in-NoNumber.is) in cc c.requires
+pub returns-in-None : goal.returns-in-None
+returns-in-None c = let none = numeral_none c.args.word.now (sym c.read_number.ensures ∙ c.in-None.is) in cc c.requires

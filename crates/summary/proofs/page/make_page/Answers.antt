@@ -17,32 +17,32 @@ pub tally_trace-judged-requires : goal.tally_trace-judged-requires
 tally_trace-judged-requires c = nothing_noted
 
 pub returns-then-index-needed : goal.returns-then-index-needed
-returns-then-index-needed c = page_short _ _ _ _ (pass_read c.tally_trace-judged.ensures c.in-Items.is).reads (omega arith) c.refuse-then-index-needed.ensures
+returns-then-index-needed c = page_short _ _ _ _ (pass_read c.tally_trace-judged.ensures c.in-Ok.is).reads (omega arith) c.refuse-then-index-needed.ensures
 
 pub slice_bounds-copy_entries-end : goal.slice_bounds-copy_entries-end
-slice_bounds-copy_entries-end c = sym ((pass_read c.tally_trace-judged.ensures c.in-Items.is).room ∙ length-replicate {A = ℕ} 256 0)
+slice_bounds-copy_entries-end c = sym ((pass_read c.tally_trace-judged.ensures c.in-Ok.is).room ∙ length-replicate {A = ℕ} 256 0)
 
 pub copy_entries-requires : goal.copy_entries-requires
-copy_entries-requires c = let p = pass_read c.tally_trace-judged.ensures c.in-Items.is in
+copy_entries-requires c = let p = pass_read c.tally_trace-judged.ensures c.in-Ok.is in
     (search rules, omega (arith, p.short, p.room, length-replicate {A = ℕ} 256 0))
 
 pub overflow_cast-cycles : goal.overflow_cast-cycles
-overflow_cast-cycles c = omega (arith, (pass_read c.tally_trace-judged.ensures c.in-Items.is).short)
+overflow_cast-cycles c = omega (arith, (pass_read c.tally_trace-judged.ensures c.in-Ok.is).short)
 
 pub overflow_add-starts : goal.overflow_add-starts
-overflow_add-starts c = omega (arith, (pass_read c.tally_trace-judged.ensures c.in-Items.is).small)
+overflow_add-starts c = omega (arith, (pass_read c.tally_trace-judged.ensures c.in-Ok.is).small)
 
-pub overflow_add-starts-in-Items : goal.overflow_add-starts-in-Items
-overflow_add-starts-in-Items c = omega (arith, (pass_read c.tally_trace-judged.ensures c.in-Items.is).small)
+pub overflow_add-starts-in-Ok : goal.overflow_add-starts-in-Ok
+overflow_add-starts-in-Ok c = omega (arith, (pass_read c.tally_trace-judged.ensures c.in-Ok.is).small)
 
-pub overflow_add-starts-in-Items-2 : goal.overflow_add-starts-in-Items-2
-overflow_add-starts-in-Items-2 c = omega (arith, (pass_read c.tally_trace-judged.ensures c.in-Items.is).small)
+pub overflow_add-starts-in-Ok-2 : goal.overflow_add-starts-in-Ok-2
+overflow_add-starts-in-Ok-2 c = omega (arith, (pass_read c.tally_trace-judged.ensures c.in-Ok.is).small)
 
-pub returns-in-Refused : goal.returns-in-Refused
-returns-in-Refused c = page_refused _ _ _ _ _ (sym c.tally_trace-judged.ensures.0 ∙ ap told_listing c.in-Refused.is) c.refuse.ensures
+pub returns-in-Err : goal.returns-in-Err
+returns-in-Err c = page_refused _ _ _ _ _ (sym c.tally_trace-judged.ensures.0 ∙ ap told_listing c.in-Err.is) c.refuse.ensures
 
 pub returns-else-index-needed : goal.returns-else-index-needed
-returns-else-index-needed c = let p = pass_read c.tally_trace-judged.ensures c.in-Items.is in
+returns-else-index-needed c = let p = pass_read c.tally_trace-judged.ensures c.in-Ok.is in
     let a = c.args in
     page_read _ _ _ _ p.reads (replicate 256 0) (omega arith) (omega (arith, p.short, length-replicate {A = ℕ} 256 0))
     (rw (c.rate_of-rate.ensures, starts_tallied p.tally, ← p.tally.count, ← p.tally.first, ← p.tally.last))
