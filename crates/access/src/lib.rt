@@ -9,7 +9,7 @@ use command::{Base, Command};
 use memory::Size;
 
 // What a command's access to memory found.
-#[derive(Clone, Copy)]
+#[derive(Clone, Copy, Debug, PartialEq, Eq)]
 pub enum Access {
     NoAccess,
     // The size, the value, and the pointer past it.
@@ -23,9 +23,7 @@ pub enum Access {
 fn past_access(size: Size, address: u32) -> u32
     ensures { result ≡ past size address }
 {
-    let at = memory::align(size, address) as u64;
-    let n = memory::byte_count(size) as u64;
-    ((at + n) % 0x100000000) as u32
+    memory::align(size, address).wrapping_add(memory::byte_count(size))
 }
 
 fn fetch_access(memory: &[u8], size: Size, address: u32) -> Access
@@ -67,14 +65,11 @@ pub fn make_access(
         × (memory.new ≡ memory_after command memory.old pointer address value) }
 {
     match command {
-        Command::Unknown => Access::NoAccess,
-        Command::Nop => Access::NoAccess,
         Command::Load(size, base) => fetch_access(memory, size, start(base, pointer, address)),
         Command::Store(size, base) => {
             store_access(memory, size, start(base, pointer, address), value)
         }
-        Command::Show(_) => Access::NoAccess,
-        Command::Change(_) => Access::NoAccess,
+        Command::Unknown | Command::Nop | Command::Show(_) | Command::Change(_) => Access::NoAccess,
     }
 }
 
@@ -82,9 +77,7 @@ pub fn pointer_after(access: Access, pointer: u32) -> u32
     ensures { result ≡ pointer_after access pointer }
 {
     match access {
-        Access::NoAccess => pointer,
-        Access::Fetched(_, _, end) => end,
-        Access::Stored(end) => end,
-        Access::Missing(_) => pointer,
+        Access::NoAccess | Access::Missing(_) => pointer,
+        Access::Fetched(_, _, end) | Access::Stored(end) => end,
     }
 }

@@ -10,8 +10,9 @@ use Rattle.port.specs.declared.Answer.{Answer}
 use Rattle.port.specs.Packet.{packet_verdict, answered, PacketMeets}
 use Rattle.port.specs.PacketUnique.{packet_unique}
 use Rattle.trigger.specs.declared.Event.{Event}
-use Rattle.bus.specs.declared.EventAnswer.{EventAnswer}
-use Rattle.bus.specs.declared.BreakpointAnswer.{BreakpointAnswer}
+use Rattle.firing.specs.declared.Seen.{Seen}
+use Rattle.firing.specs.declared.Pressed.{Pressed}
+use Rattle.bus.specs.declared.Answer.{Answer as BusAnswer}
 use Rattle.bus.specs.Events.{event_outcome, breakpoint_outcome, EventMeets, BreakpointMeets}
 use Rattle.bus.specs.EventUnique.{told_event_unique, told_breakpoint_unique}
 
@@ -28,8 +29,8 @@ packet_outcome_lem {s} {word} {r} {after} meets =
     let other : PacketMeets s word (due s word) (left s word).memory = record { answer = refl; state = refl } in
     ap (λ (a : Answer). a.outcome) (packet_unique meets other).0
 
-pub event_outcome_lem : {b : Board} {p : Place} {e : Event} {r : EventAnswer} → EventMeets b p e r → r.outcome ≡ event_outcome b p e
+pub event_outcome_lem : {b : Board} {p : Place} {e : Event} {r : BusAnswer Seen} → EventMeets b p e r → r.outcome ≡ event_outcome b p e
 event_outcome_lem {b} {p} {e} {r} meets = told_event_unique r.outcome (event_outcome b p e) meets.answer
 
-pub breakpoint_outcome_lem : {b : Board} {p : Place} {r : BreakpointAnswer} → BreakpointMeets b p r → r.outcome ≡ breakpoint_outcome b p
+pub breakpoint_outcome_lem : {b : Board} {p : Place} {r : BusAnswer Pressed} → BreakpointMeets b p r → r.outcome ≡ breakpoint_outcome b p
 breakpoint_outcome_lem {b} {p} {r} meets = told_breakpoint_unique r.outcome (breakpoint_outcome b p) meets.answer

@@ -13,9 +13,9 @@ ghost use Rattle.lent.specs.Lent.{zeros, fits, bytes_put};
 ghost use Rattle.answers.specs.Bench.{access, bench_of, left, stepped, over_lent};
 ghost use Rattle.answers.specs.Said.{made_text, memory_text, bytes_put_text, peeked_text, packet_outcome, Answers};
 
-use halting::Privilege;
 use board::{Board, Place};
 use comparators::BusAccess;
+use halting::Privilege;
 use refusal_text::{put_refusal, put_unclear};
 use trigger::Event;
 
@@ -39,26 +39,10 @@ pub fn opened() -> Bench
     ensures { result ≡ bench_of (fresh_board 0) fresh_place 0 }
 {
     let made = board::make(0);
-    let board = made.board;
-    let place = made.place;
     Bench {
-        board: board,
-        place: place,
+        board: made.board,
+        place: made.place,
         lent: 0,
-    }
-}
-
-// An answer that ends there, and the bench as it is from then on.
-pub fn bench_after(board: Board, place: Place, lent: usize, end: usize) -> Answered
-    ensures { (result.bench ≡ bench_of board place lent) × (result.end ≡ end) }
-{
-    Answered {
-        bench: Bench {
-            board: board,
-            place: place,
-            lent: lent,
-        },
-        end: end,
     }
 }
 
@@ -67,16 +51,17 @@ pub fn make(w: u32, bench: Bench, text: &mut [u8]) -> Answered
         × Puts text.old 0 (made_text (making_verdict w)) text.new result.end }
 {
     let made = board::make(w);
-    let verdict = made.verdict;
-    let board = made.board;
-    let place = made.place;
-    match verdict {
-        Ok(()) => {
-            let end = text::put_text(text, 0, b"made");
-            bench_after(board, place, bench.lent, end)
-        }
+    match made.verdict {
+        Ok(()) => Answered {
+            bench: Bench {
+                board: made.board,
+                place: made.place,
+                ..bench
+            },
+            end: text::put_text(text, 0, b"made"),
+        },
         Err(ground) => Answered {
-            bench: bench,
+            bench,
             end: put_refusal(text, ground),
         },
     }
@@ -90,10 +75,13 @@ pub fn lend(n: u32, bench: Bench, memory: &mut [u8], text: &mut [u8]) -> Answere
     let count = n as usize;
     lent::clear(memory, count);
     let at = text::put_text(text, 0, b"memory ");
-    let end = text::put_number(text, at, count);
-    let board = bench.board;
-    let place = bench.place;
-    bench_after(board, place, count, end)
+    Answered {
+        bench: Bench {
+            lent: count,
+            ..bench
+        },
+        end: text::put_number(text, at, count),
+    }
 }
 
 pub fn put_bytes(
@@ -109,17 +97,13 @@ pub fn put_bytes(
         (bytes_put_text (fits address count bench.lent) count)
         text.old result memory.new text.new }
 {
-    if lent::put_bytes(line, start, count, address, bench.lent, memory) {
+    let end = if lent::put_bytes(line, start, count, address, bench.lent, memory) {
         let at = text::put_text(text, 0, b"bytes ");
-        return Answered {
-            bench: bench,
-            end: text::put_number(text, at, count),
-        };
-    }
-    Answered {
-        bench: bench,
-        end: put_unclear(text),
-    }
+        text::put_number(text, at, count)
+    } else {
+        put_unclear(text)
+    };
+    Answered { bench, end }
 }
 
 pub fn show_bytes(
@@ -133,16 +117,12 @@ pub fn show_bytes(
         × Puts text.old 0 (peeked_text (fits address count bench.lent) memory.now address count)
         text.new result.end }
 {
-    if lent::is_lent(address, count as usize, bench.lent) {
-        return Answered {
-            bench: bench,
-            end: replies::put_peek(text, memory, address as usize, count),
-        };
-    }
-    Answered {
-        bench: bench,
-        end: put_unclear(text),
-    }
+    let end = if lent::is_lent(address, count as usize, bench.lent) {
+        replies::put_peek(text, memory, address as usize, count)
+    } else {
+        put_unclear(text)
+    };
+    Answered { bench, end }
 }
 
 fn take_word(word: u32, bench: Bench, memory: &mut [u8], text: &mut [u8]) -> Answered
@@ -150,50 +130,51 @@ fn take_word(word: u32, bench: Bench, memory: &mut [u8], text: &mut [u8]) -> Ans
         (packet_text (packet_outcome word bench memory.old))
         text.old result memory.new text.new }
 {
-    let board = bench.board;
-    let place = bench.place;
-    let answer = port::take_packet(board, place, memory, word);
-    let outcome = answer.outcome;
-    let board_next = answer.board;
-    let place_next = answer.place;
-    let end = replies::put_reply(text, outcome);
-    bench_after(board_next, place_next, bench.lent, end)
+    let answer = port::take_packet(bench.board, bench.place, memory, word);
+    Answered {
+        bench: Bench {
+            board: answer.board,
+            place: answer.place,
+            ..bench
+        },
+        end: replies::put_reply(text, answer.outcome),
+    }
 }
 
 pub fn watch(event: Event, bench: Bench, text: &mut [u8]) -> Answered
     ensures { (result.bench ≡ bench_of (board_after_event bench.board bench.place event) bench.place bench.lent)
         × Puts text.old 0 (event_text (event_outcome bench.board bench.place event)) text.new result.end }
 {
-    let board = bench.board;
-    let place = bench.place;
-    let answer = bus::take_event(board, place, event);
-    let outcome = answer.outcome;
-    let board_next = answer.board;
-    let end = replies::put_event(text, outcome);
-    bench_after(board_next, place, bench.lent, end)
+    let answer = bus::take_event(bench.board, bench.place, event);
+    Answered {
+        bench: Bench {
+            board: answer.board,
+            ..bench
+        },
+        end: replies::put_event(text, answer.outcome),
+    }
 }
 
 pub fn press(bench: Bench, text: &mut [u8]) -> Answered
     ensures { (result.bench ≡ bench_of (board_after_breakpoint bench.board bench.place) bench.place bench.lent)
         × Puts text.old 0 (breakpoint_text (breakpoint_outcome bench.board bench.place)) text.new result.end }
 {
-    let board = bench.board;
-    let place = bench.place;
-    let answer = bus::press_breakpoint(board, place);
-    let outcome = answer.outcome;
-    let board_next = answer.board;
-    let end = replies::put_breakpoint(text, outcome);
-    bench_after(board_next, place, bench.lent, end)
+    let answer = bus::press_breakpoint(bench.board, bench.place);
+    Answered {
+        bench: Bench {
+            board: answer.board,
+            ..bench
+        },
+        end: replies::put_breakpoint(text, answer.outcome),
+    }
 }
 
 pub fn tell_state(bench: Bench, text: &mut [u8]) -> Answered
     ensures { (result.bench ≡ bench) × Puts text.old 0 (state_text bench.board bench.place) text.new result.end }
 {
-    let board = bench.board;
-    let place = bench.place;
     Answered {
-        bench: bench,
-        end: state_line::put_state(text, board, place),
+        bench,
+        end: state_line::put_state(text, bench.board, bench.place),
     }
 }
 
@@ -201,13 +182,13 @@ pub fn carrying(pc: u32, address: u32, attribute: u32, lanes: u32, mark: Option<
     ensures { result ≡ access pc address attribute lanes mark }
 {
     Event {
-        pc: pc,
+        pc,
         bus: Some(BusAccess {
-            address: address,
+            address,
             attribute: (attribute % 256) as u8,
-            lanes: lanes,
+            lanes,
         }),
-        mark: mark,
+        mark,
     }
 }
 

@@ -23,23 +23,17 @@ const CONTROL_NUMBERS: [u32; 10] = [
 pub fn control_number(i: u32) -> u32
     ensures { result ≡ get_or control_numbers i 0 }
 {
-    let k = i as usize;
-    if k < 10 {
-        return CONTROL_NUMBERS[k];
-    }
-    0
+    CONTROL_NUMBERS.get(i as usize).copied().unwrap_or(0)
 }
 
 fn register_request(j: u32) -> Request
     ensures { result ≡ register_request j }
 {
-    if j < 16 {
-        return Request::Rdreg(j);
+    match j {
+        0..=15 => Request::Rdreg(j),
+        16..=25 => Request::Rcreg(control_number(j - 16)),
+        _ => Request::Rdmreg(0),
     }
-    if j < 26 {
-        return Request::Rcreg(control_number(j - 16));
-    }
-    Request::Rdmreg(0)
 }
 
 fn begins_block(k: u32) -> bool
@@ -51,25 +45,28 @@ fn begins_block(k: u32) -> bool
 pub fn address_at(address: u32, k: u32) -> u32
     ensures { result ≡ address_at address k }
 {
-    ((address as u64 + 4 * k as u64) % 0x100000000) as u32
+    address.wrapping_add(k.wrapping_mul(4))
 }
 
 fn table_request(address: u32, k: u32) -> Request
     ensures { result ≡ table_request address k }
 {
     if begins_block(k) {
-        return Request::Read(Size::Long, address_at(address, k));
+        Request::Read(Size::Long, address_at(address, k))
+    } else {
+        Request::Dump(Size::Long)
     }
-    Request::Dump(Size::Long)
 }
 
+#[tactic(auto, unfolding(crate::specs::VisitRequests::request_at))]
 pub fn request_at(address: u32, j: u32) -> Request
     ensures { result ≡ request_at address j }
 {
     if j < REGISTERS {
-        return register_request(j);
+        register_request(j)
+    } else {
+        table_request(address, j - REGISTERS)
     }
-    table_request(address, j - REGISTERS)
 }
 
 pub fn is_in_table(j: u32) -> bool
@@ -79,14 +76,9 @@ pub fn is_in_table(j: u32) -> bool
 }
 
 // A marker comes before request j of so many.
+#[tactic(auto, unfolding(crate::specs::VisitRequests::marked))]
 pub fn is_marked(ends: u32, j: u32) -> bool
     ensures { result ≡ marked ends j }
 {
-    if j < REGISTERS {
-        return ends <= j;
-    }
-    if begins_block(j - REGISTERS) {
-        return true;
-    }
-    ends <= j
+    (REGISTERS <= j && begins_block(j - REGISTERS)) || ends <= j
 }

@@ -10,23 +10,20 @@ pub const LAST: u32 = REST_NOPS + 4;
 
 const ILLEGAL_WORD: u32 = 0xFFFF;
 
+#[tactic(auto, unfolding(crate::specs::Marker::mark_word))]
 pub fn word_of(i: u32) -> u32
     ensures { result ≡ mark_word i }
 {
-    if i == REST_NOPS + 2 {
-        return ILLEGAL_WORD;
-    }
-    0
+    if i == REST_NOPS + 2 { ILLEGAL_WORD } else { 0 }
 }
 
+#[tactic(auto, unfolding(crate::specs::Marker::mark_holds))]
 pub fn is_due(i: u32, reply: u32) -> bool
     ensures { result ≡ mark_holds i reply }
 {
-    if i <= REST_NOPS {
-        return true;
-    }
     if i == REST_NOPS + 3 {
-        return reply == command::ILLEGAL;
+        reply == command::ILLEGAL
+    } else {
+        i <= REST_NOPS || reply == command::COMPLETE
     }
-    reply == command::COMPLETE
 }

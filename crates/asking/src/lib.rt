@@ -7,9 +7,9 @@ ghost use Rattle.answers.specs.Bench.{over_lent};
 ghost use Rattle.answers.specs.Said.{Answers};
 ghost use Rattle.asking.specs.Asking.{exchanged, exchanged_text, exchange_said};
 
-use readings::Outcome;
-use grounds::Ground;
 use answers::{Answered, Bench};
+use grounds::Ground;
+use readings::Outcome;
 use refusal_text::put_refusal;
 use request_text::put_exchange;
 use requests::Request;
@@ -28,14 +28,15 @@ fn converse(request: Request, bench: Bench, memory: &mut [u8], text: &mut [u8]) 
         (exchange_said request bench memory.old)
         text.old result memory.new text.new }
 {
-    let board = bench.board;
-    let place = bench.place;
-    let returned = exchange::exchange(request, board, place, memory);
-    let answer = returned.answer;
-    let board_next = returned.board;
-    let place_next = returned.place;
-    let end = put_exchanged(text, answer);
-    answers::bench_after(board_next, place_next, bench.lent, end)
+    let returned = exchange::exchange(request, bench.board, bench.place, memory);
+    Answered {
+        bench: Bench {
+            board: returned.board,
+            place: returned.place,
+            ..bench
+        },
+        end: put_exchanged(text, returned.answer),
+    }
 }
 
 // The exchange over the bytes lent, of those that there are.

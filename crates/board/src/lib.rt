@@ -10,7 +10,7 @@ use command::Command;
 use grounds::Ground;
 
 // All that a bus event or the breakpoint input may change.
-#[derive(Clone, Copy)]
+#[derive(Clone, Copy, Debug, PartialEq, Eq)]
 pub struct Status {
     pub halted: bool,
     pub fof: bool,
@@ -23,14 +23,14 @@ pub struct Status {
 }
 
 // D0 to D7 and A0 to A7; the control registers in the order of document 01.
-#[derive(Clone, Copy)]
+#[derive(Clone, Copy, Debug, PartialEq, Eq)]
 pub struct Registers {
     pub general: [u32; 16],
     pub control: [u32; 10],
 }
 
 // Of CSR the bits that are written; "AATR keeps the low 16 bits, BAAR the low 8".
-#[derive(Clone, Copy)]
+#[derive(Clone, Copy, Debug, PartialEq, Eq)]
 pub struct Debug {
     pub csr: u32,
     pub baar: u8,
@@ -45,7 +45,7 @@ pub struct Debug {
 }
 
 // What all who talk to the board share.
-#[derive(Clone, Copy)]
+#[derive(Clone, Copy, Debug, PartialEq, Eq)]
 pub struct Board {
     pub w: u32,
     pub status: Status,
@@ -55,7 +55,7 @@ pub struct Board {
 }
 
 // The operand words taken, the last four, oldest first.
-#[derive(Clone, Copy)]
+#[derive(Clone, Copy, Debug, Default, PartialEq, Eq)]
 pub struct Operands {
     pub oldest: u16,
     pub older: u16,
@@ -63,7 +63,7 @@ pub struct Operands {
     pub newest: u16,
 }
 
-#[derive(Clone, Copy)]
+#[derive(Clone, Copy, Debug, PartialEq, Eq)]
 pub enum Phase {
     Rest,
     // The command, and the operand words still due.
@@ -74,7 +74,7 @@ pub enum Phase {
     Upper(u16),
 }
 
-#[derive(Clone, Copy)]
+#[derive(Clone, Copy, Debug, PartialEq, Eq)]
 pub enum Chain {
     Off,
     Dumping,
@@ -82,7 +82,7 @@ pub enum Chain {
 }
 
 // What one who talks to the board has of his own.
-#[derive(Clone, Copy)]
+#[derive(Clone, Copy, Debug, PartialEq, Eq)]
 pub struct Place {
     pub phase: Phase,
     pub chain: Chain,
@@ -91,25 +91,26 @@ pub struct Place {
 }
 
 // What a command word is judged by.
-#[derive(Clone, Copy)]
+#[derive(Clone, Copy, Debug, PartialEq, Eq)]
 pub struct Standing {
     pub halted: bool,
     pub chain: Chain,
 }
 
 // Where the making is refused, a board of W = 0 stands in.
-#[derive(Clone, Copy)]
+#[derive(Clone, Copy, Debug, PartialEq, Eq)]
 pub struct Made {
     pub verdict: Result<(), Ground>,
     pub board: Board,
     pub place: Place,
 }
 
+#[tactic(auto, unfolding(crate::specs::Board::fresh_board))]
 fn new_board(w: u32) -> Board
     ensures { result ≡ fresh_board w }
 {
     Board {
-        w: w,
+        w,
         status: Status {
             halted: true,
             fof: false,
@@ -139,6 +140,7 @@ fn new_board(w: u32) -> Board
     }
 }
 
+#[tactic(auto, unfolding(crate::specs::Board::fresh_place))]
 fn new_place() -> Place
     ensures { result ≡ fresh_place }
 {
@@ -170,26 +172,16 @@ pub fn make(w: u32) -> Made
 pub fn standing_of(board: Board, place: Place) -> Standing
     ensures { result ≡ standing_of board place }
 {
-    let chain = place.chain;
     Standing {
         halted: board.status.halted,
-        chain: chain,
+        chain: place.chain,
     }
 }
 
 pub fn set_fault(board: Board, fault: Option<u32>) -> Board
     ensures { result ≡ with_fault board fault }
 {
-    let status = board.status;
-    let registers = board.registers;
-    let debug = board.debug;
-    Board {
-        w: board.w,
-        status: status,
-        registers: registers,
-        debug: debug,
-        fault: fault,
-    }
+    Board { fault, ..board }
 }
 
 // A field that no packet changes would come from the place given.
@@ -197,9 +189,10 @@ pub fn set_place(place: Place, phase: Phase, chain: Chain, pointer: u32, next: u
     ensures { result ≡ place_with place phase chain pointer next }
 {
     Place {
-        phase: phase,
-        chain: chain,
-        pointer: pointer,
-        next: next,
+        phase,
+        chain,
+        pointer,
+        next,
+        ..place
     }
 }

@@ -1,80 +1,75 @@
 // The desk's language: `event` lines, with the mark of request [6].
 ghost use Rattle.std.specs.Prelude.{◌≡◌};
-ghost use Rattle.words.specs.LineWords.{words_from};
+ghost use Rattle.words.specs.WordSteps.{words_left};
 ghost use Rattle.board_lines.specs.EventLines.{access_line, event_form, halt_form, halt_line, event_line};
 
 use crate::BoardLine;
 use halting::Privilege;
 use numbers::Numbers;
+use words::Words;
 
-fn access_line(pc: u32, address: u32, attribute: u32, lanes: u32, mark: Option<Privilege>) -> BoardLine
+fn access_line(
+    pc: u32,
+    address: u32,
+    attribute: u32,
+    lanes: u32,
+    mark: Option<Privilege>,
+) -> BoardLine
     ensures { result ≡ access_line pc address attribute lanes mark }
 {
     if attribute <= 0xFF {
-        return BoardLine::EventWithAccess(pc, address, attribute, lanes, mark);
+        BoardLine::EventWithAccess(pc, address, attribute, lanes, mark)
+    } else {
+        BoardLine::Unclear
     }
-    BoardLine::Unclear
 }
 
 fn event_form(numbers: Numbers, mark: Option<Privilege>) -> BoardLine
     ensures { result ≡ event_form numbers mark }
 {
     match numbers {
-        Numbers::Zero => BoardLine::Unclear,
         Numbers::One(pc) => BoardLine::Event(pc, mark),
-        Numbers::Two(_, _) => BoardLine::Unclear,
-        Numbers::Three(_, _, _) => BoardLine::Unclear,
         Numbers::Four(pc, address, attribute, lanes) => {
             access_line(pc, address, attribute, lanes, mark)
         }
-        Numbers::NotNumbers => BoardLine::Unclear,
+        _ => BoardLine::Unclear,
     }
 }
 
+#[tactic(auto, unfolding(crate::specs::EventLines::halt_form))]
 fn halt_form(before: Numbers, privilege: &[u8]) -> BoardLine
     ensures { result ≡ halt_form before privilege.now }
 {
     if words::is_same(privilege, b"user") {
-        return event_form(before, Some(Privilege::User));
+        event_form(before, Some(Privilege::User))
+    } else if words::is_same(privilege, b"supervisor") {
+        event_form(before, Some(Privilege::Supervisor))
+    } else {
+        BoardLine::Unclear
     }
-    if words::is_same(privilege, b"supervisor") {
-        return event_form(before, Some(Privilege::Supervisor));
-    }
-    BoardLine::Unclear
 }
 
 // The words behind `halt`: a privilege, and no more.
-fn halt_line(line: &[u8], from: usize, before: Numbers) -> BoardLine
-    ensures { result ≡ halt_line before (words_from line.now from) }
+fn halt_line(mut words: Words, before: Numbers) -> BoardLine
+    ensures { result ≡ halt_line before (words_left words.entry) }
 {
-    let start = words::word_start(line, from);
-    if line.len() <= start {
-        return BoardLine::Unclear;
+    match (words.next(), words.next()) {
+        (Some(privilege), None) => halt_form(before, privilege),
+        _ => BoardLine::Unclear,
     }
-    let stop = words::word_end(line, start);
-    let behind = words::word_start(line, stop);
-    if behind < line.len() {
-        return BoardLine::Unclear;
-    }
-    halt_form(before, &line[start..stop])
 }
 
 // The words behind `event`.
-pub fn event_line(line: &[u8], from: usize) -> BoardLine
-    ensures { result ≡ event_line (words_from line.now from) }
+#[tactic(auto, unfolding(crate::specs::EventLines::event_line))]
+pub fn event_line(mut words: Words) -> BoardLine
+    ensures { result ≡ event_line (words_left words.entry) }
 {
     let mut before = Numbers::Zero;
-    let mut at = from;
-    loop {
-        let start = words::word_start(line, at);
-        if line.len() <= start {
-            return event_form(before, None);
+    while let Some(word) = words.next() {
+        if words::is_same(word, b"halt") {
+            return halt_line(words, before);
         }
-        let stop = words::word_end(line, start);
-        if words::is_same(&line[start..stop], b"halt") {
-            return halt_line(line, stop, before);
-        }
-        before = numbers::add_number(before, numbers::read_number(&line[start..stop]));
-        at = stop;
+        before = numbers::add_number(before, numbers::read_number(word));
     }
+    event_form(before, None)
 }

@@ -2,13 +2,14 @@
 #![tactic(auto)]
 
 ghost use Rattle.std.specs.Prelude.{◌≡◌};
-ghost use Rattle.words.specs.LineWords.{words, words_from, last_end};
+ghost use Rattle.words.specs.LineWords.{words, last_end};
+ghost use Rattle.words.specs.WordSteps.{words_left};
 ghost use Rattle.board_lines.specs.BoardLines.{memory_line, peek_line, board_of_none, board_of_one, board_of_two};
 ghost use Rattle.board_lines.specs.BoardLines.{board_form, is_hex, hex_line, bytes_line, board_words, board_line};
 
 use halting::Privilege;
 use numbers::Numbers;
-use words::LineKind;
+use words::{LineKind, Words};
 
 mod events;
 
@@ -35,57 +36,59 @@ fn memory_line(n: u32) -> BoardLine
     ensures { result ≡ memory_line n }
 {
     if n <= 0x10010 {
-        return BoardLine::Memory(n);
+        BoardLine::Memory(n)
+    } else {
+        BoardLine::Unclear
     }
-    BoardLine::Unclear
 }
 
 fn peek_line(a: u32, n: u32) -> BoardLine
     ensures { result ≡ peek_line a n }
 {
-    if n < 1 {
-        return BoardLine::Unclear;
+    if 1 <= n && n <= 0x400 {
+        BoardLine::Peek(a, n)
+    } else {
+        BoardLine::Unclear
     }
-    if n <= 0x400 {
-        return BoardLine::Peek(a, n);
-    }
-    BoardLine::Unclear
 }
 
+#[tactic(auto, unfolding(crate::specs::BoardLines::board_of_none))]
 fn board_of_none(name: &[u8]) -> BoardLine
     ensures { result ≡ board_of_none name.now }
 {
     if words::is_same(name, b"breakpoint") {
-        return BoardLine::Breakpoint;
+        BoardLine::Breakpoint
+    } else if words::is_same(name, b"state") {
+        BoardLine::State
+    } else {
+        BoardLine::Unclear
     }
-    if words::is_same(name, b"state") {
-        return BoardLine::State;
-    }
-    BoardLine::Unclear
 }
 
+#[tactic(auto, unfolding(crate::specs::BoardLines::board_of_one))]
 fn board_of_one(name: &[u8], n: u32) -> BoardLine
     ensures { result ≡ board_of_one name.now n }
 {
     if words::is_same(name, b"make") {
-        return BoardLine::Make(n);
+        BoardLine::Make(n)
+    } else if words::is_same(name, b"memory") {
+        memory_line(n)
+    } else if words::is_same(name, b"packet") {
+        BoardLine::Packet(n)
+    } else {
+        BoardLine::Unclear
     }
-    if words::is_same(name, b"memory") {
-        return memory_line(n);
-    }
-    if words::is_same(name, b"packet") {
-        return BoardLine::Packet(n);
-    }
-    BoardLine::Unclear
 }
 
+#[tactic(auto, unfolding(crate::specs::BoardLines::board_of_two))]
 fn board_of_two(name: &[u8], a: u32, n: u32) -> BoardLine
     ensures { result ≡ board_of_two name.now a n }
 {
     if words::is_same(name, b"peek") {
-        return peek_line(a, n);
+        peek_line(a, n)
+    } else {
+        BoardLine::Unclear
     }
-    BoardLine::Unclear
 }
 
 fn read_form(name: &[u8], numbers: Numbers) -> BoardLine
@@ -95,83 +98,59 @@ fn read_form(name: &[u8], numbers: Numbers) -> BoardLine
         Numbers::Zero => board_of_none(name),
         Numbers::One(n) => board_of_one(name, n),
         Numbers::Two(a, n) => board_of_two(name, a, n),
-        Numbers::Three(_, _, _) => BoardLine::Unclear,
-        Numbers::Four(_, _, _, _) => BoardLine::Unclear,
-        Numbers::NotNumbers => BoardLine::Unclear,
+        Numbers::Three(..) | Numbers::Four(..) | Numbers::NotNumbers => BoardLine::Unclear,
     }
 }
 
 fn is_hex(digits: &[u8]) -> bool
     ensures { result ≡ is_hex digits.now }
 {
-    if digits.len() < 2 {
-        return false;
-    }
-    if digits.len() % 2 != 0 {
-        return false;
-    }
-    numbers::are_digits(digits)
+    2 <= digits.len() && digits.len() % 2 == 0 && numbers::are_digits(digits)
 }
 
 // The digits are the last word of the line, which ends at `close`.
+#[tactic(auto, unfolding(crate::specs::BoardLines::hex_line))]
 fn hex_line(close: usize, address: Option<u32>, digits: &[u8]) -> BoardLine
     ensures { result ≡ hex_line close address digits.now }
 {
+    let count = digits.len();
     match address {
-        Some(a) => {
-            if !is_hex(digits) {
-                return BoardLine::Unclear;
-            }
-            let count = digits.len();
-            if count <= close {
-                return BoardLine::Bytes(a, close - count, count / 2);
-            }
-            BoardLine::Bytes(a, 0, count / 2)
-        }
-        None => BoardLine::Unclear,
+        Some(a) if is_hex(digits) => BoardLine::Bytes(a, close.saturating_sub(count), count / 2),
+        _ => BoardLine::Unclear,
     }
 }
 
-fn bytes_line(line: &[u8], from: usize) -> BoardLine
-    ensures { result ≡ bytes_line (last_end line.now) (words_from line.now from) }
+// The words behind `bytes`.
+fn bytes_line(mut words: Words) -> BoardLine
+    ensures { result ≡ bytes_line (last_end words.entry.line.now) (words_left words.entry) }
 {
-    let start = words::word_start(line, from);
-    if line.len() <= start {
-        return BoardLine::Unclear;
+    match (words.next(), words.next(), words.next()) {
+        (Some(address), Some(digits), None) => {
+            hex_line(words.at, numbers::read_number(address), digits)
+        }
+        _ => BoardLine::Unclear,
     }
-    let stop = words::word_end(line, start);
-    let digits = words::word_start(line, stop);
-    if line.len() <= digits {
-        return BoardLine::Unclear;
-    }
-    let close = words::word_end(line, digits);
-    let behind = words::word_start(line, close);
-    if behind < line.len() {
-        return BoardLine::Unclear;
-    }
-    let address = numbers::read_number(&line[start..stop]);
-    hex_line(close, address, &line[digits..close])
 }
 
 // A line that is not silent, nor too long.
+#[tactic(auto, unfolding(crate::specs::BoardLines::board_words))]
 pub fn read_words(line: &[u8]) -> BoardLine
     ensures { result ≡ board_words (last_end line.now) (words line.now) }
 {
-    let start = words::word_start(line, 0);
-    if line.len() <= start {
+    let mut words = Words { line, at: 0 };
+    let Some(name) = words.next() else {
         return BoardLine::Unclear;
+    };
+    if words::is_same(name, b"bytes") {
+        bytes_line(words)
+    } else if words::is_same(name, b"event") {
+        events::event_line(words)
+    } else {
+        read_form(name, numbers::read_numbers(line, words.at))
     }
-    let stop = words::word_end(line, start);
-    if words::is_same(&line[start..stop], b"bytes") {
-        return bytes_line(line, stop);
-    }
-    if words::is_same(&line[start..stop], b"event") {
-        return events::event_line(line, stop);
-    }
-    let numbers = numbers::read_numbers(line, stop);
-    read_form(&line[start..stop], numbers)
 }
 
+#[tactic(auto, unfolding(crate::specs::BoardLines::board_line))]
 pub fn read_line(line: &[u8]) -> BoardLine
     ensures { result ≡ board_line line.now }
 {

@@ -22,6 +22,7 @@ fn size_code(size: Size) -> u32
     }
 }
 
+#[tactic(auto, using(crate::specs::RequestWordLaws::command_word_clear))]
 fn command_word(request: Request) -> u32
     requires { in_range request ≡ true }
     ensures { result ≡ command_word request }
@@ -47,29 +48,26 @@ fn size_count(size: Size) -> usize
     ensures { result ≡ size_words size }
 {
     match size {
-        Size::Byte => 1,
-        Size::Word => 1,
+        Size::Byte | Size::Word => 1,
         Size::Long => 2,
     }
 }
 
+#[tactic(auto, using(command::specs::CommandLaws::size_words_bound, crate::specs::RequestWordLaws::data_length))]
 fn word_count(request: Request) -> usize
     ensures { result ≡ length (built_words request) }
 {
     match request {
-        Request::Rdreg(_) => 1,
-        Request::Wdreg(_, _) => 3,
-        Request::Read(_, _) => 3,
-        Request::Write(size, _, _) => 3 + size_count(size),
-        Request::Dump(_) => 1,
+        Request::Rdreg(_)
+        | Request::Dump(_)
+        | Request::Go
+        | Request::Nop
+        | Request::SyncPc
+        | Request::Rdmreg(_) => 1,
+        Request::Wdreg(..) | Request::Read(..) | Request::Rcreg(_) | Request::Wdmreg(..) => 3,
+        Request::Wcreg(..) => 5,
+        Request::Write(size, ..) => 3 + size_count(size),
         Request::Fill(size, _) => 1 + size_count(size),
-        Request::Go => 1,
-        Request::Nop => 1,
-        Request::SyncPc => 1,
-        Request::Rcreg(_) => 3,
-        Request::Wcreg(_, _) => 5,
-        Request::Rdmreg(_) => 1,
-        Request::Wdmreg(_, _) => 3,
     }
 }
 
@@ -86,52 +84,36 @@ fn put_data(words: &mut [u32], at: usize, size: Size, value: u32)
     ensures { words.new ≡ sets words.old at (data_words size value) }
 {
     match size {
-        Size::Byte => {
-            words[at] = value;
-        }
-        Size::Word => {
-            words[at] = value;
-        }
-        Size::Long => {
-            put_halves(words, at, value);
-        }
+        Size::Byte | Size::Word => words[at] = value,
+        Size::Long => put_halves(words, at, value),
     }
 }
 
+#[tactic(auto, using(crate::specs::RequestWordLaws::data_length))]
 fn put_operands(words: &mut [u32], request: Request)
     requires { 1 + length (operands request) ≤ length words.old }
     ensures { words.new ≡ sets words.old 1 (operands request) }
 {
     match request {
-        Request::Rdreg(_) => {}
-        Request::Wdreg(_, value) => {
-            put_halves(words, 1, value);
-        }
-        Request::Read(_, address) => {
-            put_halves(words, 1, address);
+        Request::Rdreg(_)
+        | Request::Dump(_)
+        | Request::Go
+        | Request::Nop
+        | Request::SyncPc
+        | Request::Rdmreg(_) => {}
+        Request::Wdreg(_, value)
+        | Request::Read(_, value)
+        | Request::Rcreg(value)
+        | Request::Wdmreg(_, value) => { put_halves(words, 1, value) }
+        Request::Wcreg(rc, value) => {
+            put_halves(words, 1, rc);
+            put_halves(words, 3, value);
         }
         Request::Write(size, address, value) => {
             put_halves(words, 1, address);
             put_data(words, 3, size, value);
         }
-        Request::Dump(_) => {}
-        Request::Fill(size, value) => {
-            put_data(words, 1, size, value);
-        }
-        Request::Go => {}
-        Request::Nop => {}
-        Request::SyncPc => {}
-        Request::Rcreg(rc) => {
-            put_halves(words, 1, rc);
-        }
-        Request::Wcreg(rc, value) => {
-            put_halves(words, 1, rc);
-            put_halves(words, 3, value);
-        }
-        Request::Rdmreg(_) => {}
-        Request::Wdmreg(_, value) => {
-            put_halves(words, 1, value);
-        }
+        Request::Fill(size, value) => put_data(words, 1, size, value),
     }
 }
 
@@ -144,16 +126,17 @@ fn put_words(words: &mut [u32], request: Request)
 }
 
 // The built words stand at the front; the words beyond them stay, and where it is refused all do.
+#[tactic(auto, using(laws::specs::StoreLaws::sets_front), unfolding(crate::specs::Building::building_verdict))]
 pub fn build(request: Request, words: &mut [u32]) -> Result<usize, Ground>
     ensures { BuildingMeets request words.old result words.new }
 {
-    if requests::is_in_range(request) {
-        let count = word_count(request);
-        if count <= words.len() {
-            put_words(words, request);
-            return Ok(count);
-        }
+    if !requests::is_in_range(request) {
+        return Err(Ground::RequestOutOfRange);
+    }
+    let count = word_count(request);
+    if words.len() < count {
         return Err(Ground::BufferTooShort);
     }
-    Err(Ground::RequestOutOfRange)
+    put_words(words, request);
+    Ok(count)
 }

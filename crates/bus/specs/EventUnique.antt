@@ -11,8 +11,7 @@ use Rattle.halting.specs.declared.Halting.{Halting}
 use Rattle.halting.specs.declared.Halting.TheVariants.{NoHalt, Halts, Ignored}
 use Rattle.firing.specs.declared.Seen.{Seen}
 use Rattle.firing.specs.declared.Pressed.{Pressed}
-use Rattle.bus.specs.declared.EventAnswer.{EventAnswer}
-use Rattle.bus.specs.declared.BreakpointAnswer.{BreakpointAnswer}
+use Rattle.bus.specs.declared.Answer.{Answer}
 use Rattle.bus.specs.EventAnswers.{told_captured, told_halting, EventTold, told_event, BreakpointTold, told_breakpoint}
 use Rattle.bus.specs.Events.{EventMeets, BreakpointMeets}
 
@@ -70,12 +69,12 @@ told_breakpoint_unique (Ok s) (Err h) e =
 told_breakpoint_unique (Ok s) (Ok t) e = ap Ok (ap pressed_back e)
 
 -- no second answer fits
-pub event_unique : {b : Board} {p : Place} {e : Event} {r s : EventAnswer} → EventMeets b p e r → EventMeets b p e s → r ≡ s
+pub event_unique : {b : Board} {p : Place} {e : Event} {r s : Answer Seen} → EventMeets b p e r → EventMeets b p e s → r ≡ s
 event_unique {b} {p} {e} {r} {s} f g =
     ap (λ (o : Result Seen Ground). record { outcome = o; board = r.board }) (told_event_unique r.outcome s.outcome (f.answer ∙ sym g.answer))
     ∙ ap (λ (after : Board). record { outcome = s.outcome; board = after }) (f.board ∙ sym g.board)
 
-pub breakpoint_unique : {b : Board} {p : Place} {r s : BreakpointAnswer} → BreakpointMeets b p r → BreakpointMeets b p s → r ≡ s
+pub breakpoint_unique : {b : Board} {p : Place} {r s : Answer Pressed} → BreakpointMeets b p r → BreakpointMeets b p s → r ≡ s
 breakpoint_unique {b} {p} {r} {s} f g =
     ap (λ (o : Result Pressed Ground). record { outcome = o; board = r.board })
     (told_breakpoint_unique r.outcome s.outcome (f.answer ∙ sym g.answer))

@@ -12,8 +12,7 @@ use Rattle.trigger.specs.declared.Event.{Event}
 use Rattle.comparators.specs.Lanes.{size_field}
 use Rattle.firing.specs.declared.Seen.{Seen}
 use Rattle.firing.specs.declared.Pressed.{Pressed}
-use Rattle.bus.specs.declared.EventAnswer.{EventAnswer}
-use Rattle.bus.specs.declared.BreakpointAnswer.{BreakpointAnswer}
+use Rattle.bus.specs.declared.Answer.{Answer}
 use Rattle.firing.specs.Firing.{firing, seen, status_after}
 use Rattle.firing.specs.Breakpoint.{pressed, status_pressed}
 use Rattle.bus.specs.EventAnswers.{told_event, told_breakpoint}
@@ -60,11 +59,11 @@ abbrev pub board_after_breakpoint : Board → Place → Board
 board_after_breakpoint b p = if_accepted (breakpoint_verdict b p) (with_status b (status_pressed b.status (pressed b.status b.debug))) b
 
 -- the promise of an event
-pub record EventMeets (b : Board) (p : Place) (event : Event) (r : EventAnswer) : Type 0 where
+pub record EventMeets (b : Board) (p : Place) (event : Event) (r : Answer Seen) : Type 0 where
   pub answer : told_event r.outcome ≡ told_event (event_outcome b p event)
   pub board : r.board ≡ board_after_event b p event
 
 -- the promise of the breakpoint input
-pub record BreakpointMeets (b : Board) (p : Place) (r : BreakpointAnswer) : Type 0 where
+pub record BreakpointMeets (b : Board) (p : Place) (r : Answer Pressed) : Type 0 where
   pub answer : told_breakpoint r.outcome ≡ told_breakpoint (breakpoint_outcome b p)
   pub board : r.board ≡ board_after_breakpoint b p

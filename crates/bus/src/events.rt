@@ -2,8 +2,8 @@
 ghost use Rattle.std.specs.Prelude.{◌≡◌};
 ghost use Rattle.bus.specs.Events.{reserved_size, event_verdict};
 
-use comparators::BusAccess;
 use board::{Board, Place};
+use comparators::BusAccess;
 use grounds::Ground;
 use trigger::Event;
 
@@ -16,10 +16,10 @@ fn is_reserved(bus: Option<BusAccess>) -> bool
     }
 }
 
+#[tactic(auto, unfolding(crate::specs::Events::event_verdict))]
 pub fn judge_event(board: Board, place: Place, event: Event) -> Result<(), Ground>
     ensures { result ≡ event_verdict board place event }
 {
-    let bus = event.bus;
     if !ranges::is_in_range(board, place) {
         return Err(Ground::StateOutOfRange);
     }
@@ -29,7 +29,7 @@ pub fn judge_event(board: Board, place: Place, event: Event) -> Result<(), Groun
     if event.pc % 2 != 0 {
         return Err(Ground::OddPc);
     }
-    if is_reserved(bus) {
+    if is_reserved(event.bus) {
         return Err(Ground::ReservedSize);
     }
     Ok(())

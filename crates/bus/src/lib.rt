@@ -10,60 +10,47 @@ use trigger::Event;
 
 mod events;
 
-#[derive(Clone, Copy)]
-pub struct EventAnswer {
-    pub outcome: Result<Seen, Ground>,
+// What is answered, and the board that is left.
+#[derive(Clone, Copy, Debug, PartialEq, Eq)]
+pub struct Answer<T> {
+    pub outcome: Result<T, Ground>,
     pub board: Board,
 }
 
-#[derive(Clone, Copy)]
-pub struct BreakpointAnswer {
-    pub outcome: Result<Pressed, Ground>,
-    pub board: Board,
-}
-
-pub fn take_event(board: Board, place: Place, event: Event) -> EventAnswer
+pub fn take_event(board: Board, place: Place, event: Event) -> Answer<Seen>
     ensures { EventMeets board place event result }
 {
-    let verdict = events::judge_event(board, place, event);
-    match verdict {
-        Err(ground) => EventAnswer {
+    match events::judge_event(board, place, event) {
+        Err(ground) => Answer {
             outcome: Err(ground),
-            board: board,
+            board,
         },
         Ok(()) => {
-            let status = board.status;
-            let debug = board.debug;
-            let fired = firing::fire(status, debug, event);
-            let answer = firing::see(status, debug, event, fired);
-            let after = firing::status_after(status, debug, event, fired);
-            let mut b = board;
-            b.status = after;
-            EventAnswer {
-                outcome: Ok(answer),
-                board: b,
+            let fired = firing::fire(board.status, board.debug, event);
+            let seen = firing::see(board.status, board.debug, event, fired);
+            let status = firing::status_after(board.status, board.debug, event, fired);
+            Answer {
+                outcome: Ok(seen),
+                board: Board { status, ..board },
             }
         }
     }
 }
 
-pub fn press_breakpoint(board: Board, place: Place) -> BreakpointAnswer
+#[tactic(auto, unfolding(crate::specs::Events::breakpoint_verdict))]
+pub fn press_breakpoint(board: Board, place: Place) -> Answer<Pressed>
     ensures { BreakpointMeets board place result }
 {
-    if ranges::is_in_range(board, place) {
-        let status = board.status;
-        let debug = board.debug;
-        let answer = firing::press(status, debug);
-        let after = firing::status_pressed(status, answer);
-        let mut b = board;
-        b.status = after;
-        return BreakpointAnswer {
-            outcome: Ok(answer),
-            board: b,
+    if !ranges::is_in_range(board, place) {
+        return Answer {
+            outcome: Err(Ground::StateOutOfRange),
+            board,
         };
     }
-    BreakpointAnswer {
-        outcome: Err(Ground::StateOutOfRange),
-        board: board,
+    let pressed = firing::press(board.status, board.debug);
+    let status = firing::status_pressed(board.status, pressed);
+    Answer {
+        outcome: Ok(pressed),
+        board: Board { status, ..board },
     }
 }

@@ -21,7 +21,7 @@ pub const BUS_ERROR: u32 = 0x10001;
 pub const ILLEGAL: u32 = 0x1FFFF;
 
 // The registers that WDMREG takes.
-#[derive(Clone, Copy)]
+#[derive(Clone, Copy, Debug, PartialEq, Eq)]
 pub enum DebugRegister {
     Csr,
     Baar,
@@ -36,14 +36,14 @@ pub enum DebugRegister {
 }
 
 // Where an access to memory begins: at the address sent, or at the pointer.
-#[derive(Clone, Copy)]
+#[derive(Clone, Copy, Debug, PartialEq, Eq)]
 pub enum Base {
     Address,
     Pointer,
 }
 
 // What a command shows of the board.
-#[derive(Clone, Copy)]
+#[derive(Clone, Copy, Debug, PartialEq, Eq)]
 pub enum Source {
     General(u8),
     Control,
@@ -51,7 +51,7 @@ pub enum Source {
 }
 
 // What a command changes of the board.
-#[derive(Clone, Copy)]
+#[derive(Clone, Copy, Debug, PartialEq, Eq)]
 pub enum Target {
     General(u8),
     Control,
@@ -61,7 +61,7 @@ pub enum Target {
 }
 
 // A command is what it does.
-#[derive(Clone, Copy)]
+#[derive(Clone, Copy, Debug, PartialEq, Eq)]
 pub enum Command {
     Unknown,
     Nop,
@@ -78,59 +78,33 @@ pub enum Command {
 pub fn operand_count(command: Command) -> u32
     ensures { result ≡ operand_words command }
 {
-    let counts = lines::counts_of(command);
-    counts.operands
+    lines::counts_of(command).operands
 }
 
 pub fn result_count(command: Command) -> u32
     ensures { result ≡ result_words command }
 {
-    let counts = lines::counts_of(command);
-    counts.results
+    lines::counts_of(command).results
 }
 
 pub fn needs_halted(command: Command) -> bool
     ensures { result ≡ halted_only command }
 {
-    match command {
-        Command::Unknown => false,
-        Command::Nop => false,
-        Command::Load(_, _) => false,
-        Command::Store(_, _) => false,
-        Command::Show(source) => match source {
-            Source::General(_) => true,
-            Source::Control => true,
-            Source::Csr => false,
-        },
-        Command::Change(target) => match target {
-            Target::General(_) => true,
-            Target::Control => true,
-            Target::Debug(_) => false,
-            Target::Run => true,
-            Target::Sync => false,
-        },
-    }
+    matches!(
+        command,
+        Command::Show(Source::General(_) | Source::Control)
+            | Command::Change(Target::General(_) | Target::Control | Target::Run)
+    )
 }
 
 pub fn does_wait(command: Command) -> bool
     ensures { result ≡ waits command }
 {
-    match command {
-        Command::Unknown => false,
-        Command::Nop => false,
-        Command::Load(_, _) => true,
-        Command::Store(_, _) => true,
-        Command::Show(source) => match source {
-            Source::General(_) => false,
-            Source::Control => true,
-            Source::Csr => false,
-        },
-        Command::Change(target) => match target {
-            Target::General(_) => false,
-            Target::Control => true,
-            Target::Debug(_) => false,
-            Target::Run => false,
-            Target::Sync => false,
-        },
-    }
+    matches!(
+        command,
+        Command::Load(_, _)
+            | Command::Store(_, _)
+            | Command::Show(Source::Control)
+            | Command::Change(Target::Control)
+    )
 }

@@ -15,13 +15,9 @@ const NUMBERS: u64 = 0x1000_0000;
 fn takes(line: u64, lower: u8) -> bool
     ensures { result ≡ takes line lower }
 {
-    if lower / 16 % 4 != 0 {
-        return false;
-    }
-    if (line / SIZES >> (lower / 64) as u64) % 2 != 1 {
-        return false;
-    }
-    (line / NUMBERS >> (lower % 16) as u64) % 2 == 1
+    lower / 16 % 4 == 0
+        && (line / SIZES >> (lower / 64)) % 2 == 1
+        && (line / NUMBERS >> (lower % 16)) % 2 == 1
 }
 
 // The command, if the line has the lower byte.
@@ -29,9 +25,10 @@ pub fn allow(line: u64, lower: u8, command: Command) -> Command
     ensures { Allows line lower command result }
 {
     if takes(line, lower) {
-        return command;
+        command
+    } else {
+        Command::Unknown
     }
-    Command::Unknown
 }
 
 pub fn size_in(lower: u8) -> Size
@@ -65,14 +62,14 @@ pub fn debug_at(n: u8) -> DebugRegister
 pub fn no_operation(n: u8) -> Command
     ensures { result ≡ nop_or_sync n }
 {
-    if n == 0 {
-        return Command::Nop;
+    match n {
+        0 => Command::Nop,
+        _ => Command::Change(Target::Sync),
     }
-    Command::Change(Target::Sync)
 }
 
 // How many words a command has.
-#[derive(Clone, Copy)]
+#[derive(Clone, Copy, Debug, PartialEq, Eq)]
 pub struct Counts {
     pub operands: u32,
     pub results: u32,
@@ -107,25 +104,17 @@ pub fn counts_of(command: Command) -> Counts
             results: 0,
         },
         Command::Nop => counts_in(table::NOP, Size::Byte),
-        Command::Load(size, base) => match base {
-            Base::Address => counts_in(table::READ, size),
-            Base::Pointer => counts_in(table::DUMP, size),
-        },
-        Command::Store(size, base) => match base {
-            Base::Address => counts_in(table::WRITE, size),
-            Base::Pointer => counts_in(table::FILL, size),
-        },
-        Command::Show(source) => match source {
-            Source::General(_) => counts_in(table::RDREG, Size::Long),
-            Source::Control => counts_in(table::RCREG, Size::Long),
-            Source::Csr => counts_in(table::RDMREG, Size::Long),
-        },
-        Command::Change(target) => match target {
-            Target::General(_) => counts_in(table::WDREG, Size::Long),
-            Target::Control => counts_in(table::WCREG, Size::Long),
-            Target::Debug(_) => counts_in(table::WDMREG, Size::Long),
-            Target::Run => counts_in(table::GO, Size::Byte),
-            Target::Sync => counts_in(table::NOP, Size::Byte),
-        },
+        Command::Load(size, Base::Address) => counts_in(table::READ, size),
+        Command::Load(size, Base::Pointer) => counts_in(table::DUMP, size),
+        Command::Store(size, Base::Address) => counts_in(table::WRITE, size),
+        Command::Store(size, Base::Pointer) => counts_in(table::FILL, size),
+        Command::Show(Source::General(_)) => counts_in(table::RDREG, Size::Long),
+        Command::Show(Source::Control) => counts_in(table::RCREG, Size::Long),
+        Command::Show(Source::Csr) => counts_in(table::RDMREG, Size::Long),
+        Command::Change(Target::General(_)) => counts_in(table::WDREG, Size::Long),
+        Command::Change(Target::Control) => counts_in(table::WCREG, Size::Long),
+        Command::Change(Target::Debug(_)) => counts_in(table::WDMREG, Size::Long),
+        Command::Change(Target::Run) => counts_in(table::GO, Size::Byte),
+        Command::Change(Target::Sync) => counts_in(table::NOP, Size::Byte),
     }
 }

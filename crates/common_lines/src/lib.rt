@@ -5,9 +5,9 @@ ghost use Rattle.std.specs.Prelude.{◌≡◌};
 ghost use Rattle.words.specs.LineWords.{words};
 ghost use Rattle.common_lines.specs.CommonLines.{common_name, common_words, common_line, quits};
 
-use words::LineKind;
+use words::{LineKind, Words};
 
-#[derive(Clone, Copy)]
+#[derive(Clone, Copy, Debug, PartialEq, Eq)]
 pub enum CommonLine {
     Help,
     Quit,
@@ -15,49 +15,41 @@ pub enum CommonLine {
     Other,
 }
 
+#[tactic(auto, unfolding(crate::specs::CommonLines::common_name))]
 fn read_name(name: &[u8]) -> CommonLine
     ensures { result ≡ common_name name.now }
 {
     if words::is_same(name, b"help") {
-        return CommonLine::Help;
+        CommonLine::Help
+    } else if words::is_same(name, b"quit") {
+        CommonLine::Quit
+    } else {
+        CommonLine::Other
     }
-    if words::is_same(name, b"quit") {
-        return CommonLine::Quit;
-    }
-    CommonLine::Other
 }
 
 fn read_words(line: &[u8]) -> CommonLine
     ensures { result ≡ common_words (words line.now) }
 {
-    let start = words::word_start(line, 0);
-    if line.len() <= start {
-        return CommonLine::Other;
+    let mut words = Words { line, at: 0 };
+    match (words.next(), words.next()) {
+        (Some(name), None) => read_name(name),
+        _ => CommonLine::Other,
     }
-    let stop = words::word_end(line, start);
-    let behind = words::word_start(line, stop);
-    if behind < line.len() {
-        return CommonLine::Other;
-    }
-    read_name(&line[start..stop])
 }
 
+#[tactic(auto, unfolding(crate::specs::CommonLines::common_line))]
 pub fn read_line(line: &[u8]) -> CommonLine
     ensures { result ≡ common_line line.now }
 {
     match words::kind_of(line) {
-        LineKind::Silent => CommonLine::Other,
         LineKind::Clear => read_words(line),
-        LineKind::TooLong => CommonLine::Other,
+        LineKind::Silent | LineKind::TooLong => CommonLine::Other,
     }
 }
 
 pub fn is_quit(line: &[u8]) -> bool
     ensures { result ≡ quits line.now }
 {
-    match read_line(line) {
-        CommonLine::Help => false,
-        CommonLine::Quit => true,
-        CommonLine::Other => false,
-    }
+    matches!(read_line(line), CommonLine::Quit)
 }

@@ -7,14 +7,14 @@ use crate::BusAccess;
 pub fn size_field(access: BusAccess) -> u32
     ensures { result ≡ size_field access }
 {
-    (access.attribute as u32) / 32 % 4
+    u32::from(access.attribute) / 32 % 4
 }
 
+#[tactic(auto, unfolding(crate::specs::Lanes::byte_lanes))]
 fn byte_lanes(address: u32) -> u32
     ensures { result ≡ byte_lanes address }
 {
-    let place = address % 4;
-    match place {
+    match address % 4 {
         0 => 0xFF000000,
         1 => 0x00FF0000,
         2 => 0x0000FF00,
@@ -26,16 +26,17 @@ fn word_lanes(address: u32) -> u32
     ensures { result ≡ word_lanes address }
 {
     if address / 2 % 2 == 0 {
-        return 0xFFFF0000;
+        0xFFFF0000
+    } else {
+        0x0000FFFF
     }
-    0x0000FFFF
 }
 
+#[tactic(auto, unfolding(crate::specs::Lanes::carried_lanes))]
 fn carried_lanes(access: BusAccess) -> u32
     ensures { result ≡ carried_lanes access }
 {
-    let size = size_field(access);
-    match size {
+    match size_field(access) {
         0 => 0xFFFFFFFF,
         1 => byte_lanes(access.address),
         2 => word_lanes(access.address),
@@ -43,9 +44,9 @@ fn carried_lanes(access: BusAccess) -> u32
     }
 }
 
+#[tactic(auto, unfolding(crate::specs::Lanes::carries_all))]
 pub fn carries_all(lanes: u32, access: BusAccess) -> bool
     ensures { result ≡ carries_all lanes access }
 {
-    let carried = carried_lanes(access);
-    lanes & carried == lanes
+    lanes & carried_lanes(access) == lanes
 }

@@ -4,13 +4,11 @@
 ghost use Rattle.std.specs.Prelude.{◌≡◌, ◌&&◌};
 ghost use Rattle.comparators.specs.Comparators.{comparator, some_comparator, data_enabled, data_holds};
 
-use board::Debug;
-
 pub mod lanes;
 pub mod mask;
 
 // The attribute is laid out as AATR's low byte.
-#[derive(Clone, Copy)]
+#[derive(Clone, Copy, Debug, PartialEq, Eq)]
 pub struct BusAccess {
     pub address: u32,
     pub attribute: u8,
@@ -18,7 +16,7 @@ pub struct BusAccess {
 }
 
 // One level of TDR: its T, and its fourteen bits in the order of Table 5-14.
-#[derive(Clone, Copy)]
+#[derive(Clone, Copy, Debug, PartialEq, Eq)]
 pub struct Level {
     pub t: bool,
     pub ebl: bool,
@@ -37,38 +35,36 @@ pub struct Level {
     pub pci: bool,
 }
 
-fn compares(set: bool, lanes: u32, di: bool, debug: Debug, access: BusAccess) -> bool
-    ensures { result ≡ (set && comparator lanes di debug access) }
+#[tactic(auto, unfolding(crate::specs::Comparators::comparator))]
+fn compares(lanes: u32, di: bool, debug: board::Debug, access: BusAccess) -> bool
+    ensures { result ≡ comparator lanes di debug access }
 {
-    let counts = lanes::carries_all(lanes, access);
     let agreed = mask::agrees(debug.dbmr | !lanes, access.lanes, debug.dbr);
-    let met = mask::turn(di, agreed);
-    set & (counts & met)
+    lanes::carries_all(lanes, access) && mask::turn(di, agreed)
 }
 
-fn some_compares(level: Level, di: bool, debug: Debug, access: BusAccess) -> bool
+#[tactic(auto, unfolding(crate::specs::Comparators::some_set))]
+fn some_compares(level: Level, di: bool, debug: board::Debug, access: BusAccess) -> bool
     ensures { result ≡ some_comparator level di debug access }
 {
-    let edlw = compares(level.edlw, 0xFFFFFFFF, di, debug, access);
-    let edwl = compares(level.edwl, 0x0000FFFF, di, debug, access);
-    let edwu = compares(level.edwu, 0xFFFF0000, di, debug, access);
-    let edll = compares(level.edll, 0x000000FF, di, debug, access);
-    let edlm = compares(level.edlm, 0x0000FF00, di, debug, access);
-    let edum = compares(level.edum, 0x00FF0000, di, debug, access);
-    let eduu = compares(level.eduu, 0xFF000000, di, debug, access);
-    edlw | edwl | edwu | edll | edlm | edum | eduu
+    (level.edlw && compares(0xFFFFFFFF, di, debug, access))
+        || (level.edwl && compares(0x0000FFFF, di, debug, access))
+        || (level.edwu && compares(0xFFFF0000, di, debug, access))
+        || (level.edll && compares(0x000000FF, di, debug, access))
+        || (level.edlm && compares(0x0000FF00, di, debug, access))
+        || (level.edum && compares(0x00FF0000, di, debug, access))
+        || (level.eduu && compares(0xFF000000, di, debug, access))
 }
 
+#[tactic(auto, unfolding(crate::specs::Comparators::data_enabled))]
 fn is_data_enabled(level: Level) -> bool
     ensures { result ≡ data_enabled level }
 {
-    level.edlw | level.edwl | level.edwu | level.edll | level.edlm | level.edum | level.eduu
+    level.edlw || level.edwl || level.edwu || level.edll || level.edlm || level.edum || level.eduu
 }
 
-pub fn holds_data(level: Level, debug: Debug, access: BusAccess) -> bool
+pub fn holds_data(level: Level, debug: board::Debug, access: BusAccess) -> bool
     ensures { result ≡ data_holds level debug access }
 {
-    let enabled = is_data_enabled(level);
-    let met = some_compares(level, level.di, debug, access);
-    !enabled | met
+    !is_data_enabled(level) || some_compares(level, level.di, debug, access)
 }

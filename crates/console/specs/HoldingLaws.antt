@@ -1,13 +1,12 @@
 -- Laws of what is held of a line: all of it where it has room, and its kind where it has not.
-use Rattle.std.specs.Prelude.{ℕ, zero, suc, ◌+◌, ◌-◌, ◌<◌, ◌≤◌, ◌≡◌, refl, Bool, cond, List, [], ◌∷◌, ◌++◌, leb, ltb, eqb, length, get_or, set, take, drop}
+use Rattle.std.specs.Prelude.{ℕ, suc, ◌+◌, ◌-◌, ◌<◌, ◌≤◌, ◌≡◌, refl, Bool, cond, List, [], ◌∷◌, ◌++◌, leb, length, get_or, set, take, drop}
 use Rattle.std.proofs.Common.{arith, add-one, ap, sym, ◌∙◌, append-nil, length-append, take-append-drop, drop_of_length-le, length-take-le}
 use Rattle.std.proofs.Common.{take-suc-set, drop-drop}
 use Rattle.std.proofs.Math.Bool.{true, false}
 use Rattle.std.proofs.Math.ListN.{length-set}
 use Rattle.std.proofs.Math.Seq.{append_snoc, take_all, split_at}
 use Rattle.std.proofs.lemmas.List.{set_split}
-use borrow.Author.Tests.{lt-ltb, le-ltb, lt-leb, le-leb, leb-true, leb-false}
-use Rattle.words.specs.declared.LineKind.TheVariants.{Silent, Clear, TooLong}
+use borrow.Author.Tests.{lt-ltb, le-ltb, lt-leb, leb-true, leb-false}
 use Rattle.words.specs.LineWords.{is_gap, is_silent, kind_of}
 use Rattle.console.specs.Holding.{held, held_on, held_of}
 

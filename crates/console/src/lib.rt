@@ -1,7 +1,7 @@
 // Lines from standard input, and text to standard output.
 #![tactic(auto)]
 
-ghost use Rattle.std.specs.Prelude.{◌≤◌, min, ◌≡◌, length};
+ghost use Rattle.std.specs.Prelude.{◌≤◌, ◌≡◌, length};
 ghost use Rattle.text.specs.Text.{written};
 ghost use Rattle.console.specs.InputLines.{is_line_end};
 ghost use Rattle.console.specs.LineReading.{CutMeets, HoldMeets, NextMeets, unread_of};
@@ -13,28 +13,28 @@ pub mod arguments;
 use std::io::{Read, Stdin, Stdout, Write};
 
 // The part of the source that was read and not yet taken.
-#[derive(Clone, Copy)]
+#[derive(Clone, Copy, Debug, PartialEq, Eq)]
 pub struct Unread {
     pub at: usize,
     pub end: usize,
 }
 
 // A line, of which so many bytes are held at the front of the buffer.
-#[derive(Clone, Copy)]
+#[derive(Clone, Copy, Debug, PartialEq, Eq)]
 pub enum Input {
     Line(usize),
     // What came behind the last line end; the input has ended.
     Last(usize),
 }
 
-#[derive(Clone, Copy)]
+#[derive(Clone, Copy, Debug, PartialEq, Eq)]
 pub struct LineTaken {
     pub unread: Unread,
     pub input: Input,
 }
 
 // How many bytes were taken, how many are held of the line, whether it has ended; and whether there was no byte at all.
-#[derive(Clone, Copy)]
+#[derive(Clone, Copy, Debug, PartialEq, Eq)]
 pub struct Cut {
     pub taken: usize,
     pub held: usize,
@@ -45,10 +45,7 @@ pub struct Cut {
 pub fn is_line_end(byte: u8) -> bool
     ensures { result ≡ is_line_end byte }
 {
-    if byte == b'\n' {
-        return true;
-    }
-    byte == b'\r'
+    matches!(byte, b'\n' | b'\r')
 }
 
 // Of a line too long for the buffer its front is held, and in the last place the first byte from there on that is no space or tab.
@@ -76,23 +73,20 @@ fn cut_line(bytes: &[u8], line: &mut [u8], before: usize) -> Cut
     ensures { CutMeets bytes.now line.old before result line.new }
 {
     let mut held = before;
-    let mut i = 0;
-    while i < bytes.len() {
-        let byte = bytes[i];
-        i += 1;
-        if is_line_end(byte) {
+    for (i, byte) in bytes.iter().enumerate() {
+        if is_line_end(*byte) {
             return Cut {
-                taken: i,
-                held: held,
+                taken: i + 1,
+                held,
                 ended: true,
                 none: false,
             };
         }
-        held = hold_byte(line, held, byte);
+        held = hold_byte(line, held, *byte);
     }
     Cut {
-        taken: i,
-        held: held,
+        taken: bytes.len(),
+        held,
         ended: false,
         none: bytes.len() == 0,
     }
@@ -124,36 +118,25 @@ pub fn read_full(input: Stdin, buffer: &mut [u8]) -> usize
     count
 }
 
-fn least(end: usize, most: usize) -> usize
-    ensures { result ≡ min end most }
-{
-    if end <= most {
-        return end;
-    }
-    most
-}
-
 // The next line without its line end. The budget of reads is never used up.
 pub fn next_line(input: Stdin, source: &mut [u8], unread: Unread, line: &mut [u8]) -> LineTaken
     ensures { NextMeets source.old (unread_of source.old unread.at unread.end) line.old result.input
         source.new result.unread.end (unread_of source.new result.unread.at result.unread.end) line.new }
 {
-    let end = least(unread.end, source.len());
-    let at = least(unread.at, end);
+    let end = unread.end.min(source.len());
+    let at = unread.at.min(end);
     let first = cut_line(&source[at..end], line, 0);
     if first.ended {
         return LineTaken {
             unread: Unread {
                 at: at + first.taken,
-                end: end,
+                end,
             },
             input: Input::Line(first.held),
         };
     }
     let mut held = first.held;
-    let mut budget: u64 = 0xFFFFFFFFFFFFFFFF;
-    while 0 < budget {
-        budget -= 1;
+    for _ in 0..u64::MAX {
         let got = refill(input, source);
         let part = cut_line(&source[..got], line, held);
         held = part.held;
@@ -181,10 +164,7 @@ pub fn next_line(input: Stdin, source: &mut [u8], unread: Unread, line: &mut [u8
 
 // Writes all the bytes to a stream. Nothing is to be done where it is closed.
 pub fn write_all<W: Write>(stream: &mut W, bytes: &[u8]) {
-    match stream.write_all(bytes) {
-        Ok(()) => {}
-        Err(_) => {}
-    }
+    let _ = stream.write_all(bytes);
 }
 
 // Writes the text up to a place to a stream.

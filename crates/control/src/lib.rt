@@ -7,6 +7,7 @@ ghost use Rattle.control.specs.Control.{control_index, control_listed, control_f
 use board::Board;
 
 // The index among the ten control registers; 10 for a number that is none of them.
+#[tactic(auto, unfolding(crate::specs::Control::control_index))]
 fn index_of(number: u32) -> usize
     ensures { result ≡ control_index number }
 {
@@ -28,9 +29,7 @@ fn index_of(number: u32) -> usize
 pub fn general_of(board: Board, n: u32) -> u32
     ensures { result ≡ get_or board.registers.general (n % 16) 0 }
 {
-    let registers = board.registers;
-    let i = (n % 16) as usize;
-    registers.general[i]
+    board.registers.general[(n % 16) as usize]
 }
 
 pub fn is_listed(number: u32) -> bool
@@ -39,38 +38,29 @@ pub fn is_listed(number: u32) -> bool
     index_of(number) < 10
 }
 
+#[tactic(auto, unfolding(crate::specs::Control::control_fetched))]
 pub fn fetch_control(board: Board, number: u32) -> Option<u32>
     ensures { result ≡ control_fetched board number }
 {
-    let i = index_of(number);
-    if i < 10 {
-        let registers = board.registers;
-        return Some(registers.control[i]);
-    }
-    None
+    board.registers.control.get(index_of(number)).copied()
 }
 
+#[tactic(auto, unfolding(crate::specs::Control::control_written))]
 pub fn set_control(board: Board, number: u32, value: u32) -> Board
     ensures { result ≡ control_written board number value }
 {
+    let mut b = board;
     let i = index_of(number);
     if i < 10 {
-        let mut registers = board.registers;
-        registers.control[i] = value;
-        let mut b = board;
-        b.registers = registers;
-        return b;
+        b.registers.control[i] = value;
     }
-    board
+    b
 }
 
 pub fn set_general(board: Board, n: u32, value: u32) -> Board
     ensures { result ≡ general_written board n value }
 {
-    let mut registers = board.registers;
-    let i = (n % 16) as usize;
-    registers.general[i] = value;
     let mut b = board;
-    b.registers = registers;
+    b.registers.general[(n % 16) as usize] = value;
     b
 }

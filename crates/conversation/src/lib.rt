@@ -25,36 +25,13 @@ fn serve(
 {
     let over = common_lines::is_quit(line);
     let answered = languages::answer(language, line, bench, memory, text);
-    let end = answered.end;
-    let next = answered.bench;
-    if 0 < end {
-        console::say(output, text, end);
-        return Served {
-            bench: next,
-            over: over,
-        };
+    if 0 < answered.end {
+        console::say(output, text, answered.end);
     }
     Served {
-        bench: next,
-        over: over,
+        bench: answered.bench,
+        over,
     }
-}
-
-// The line of so many bytes at the front of the buffer.
-fn serve_front(
-    output: Stdout,
-    language: Language,
-    line: &[u8],
-    held: usize,
-    bench: Bench,
-    memory: &mut [u8],
-    text: &mut [u8],
-) -> Served
-    requires { held ≤ length line.now }
-    ensures { ServedMeets language (take held line.now) bench memory.old text.old
-        result memory.new text.new }
-{
-    serve(output, language, &line[..held], bench, memory, text)
 }
 
 // Line after line from what is unread of the source on, to `quit` or the end of the input. The budget of lines is never used up.
@@ -74,23 +51,19 @@ fn run(
 {
     let mut bench = answers::opened();
     let mut unread = start;
-    let mut budget: u64 = 0xFFFFFFFFFFFFFFFF;
-    while 0 < budget {
-        budget -= 1;
+    for _ in 0..u64::MAX {
         let taken = console::next_line(input, source, unread, line);
         unread = taken.unread;
-        let came = taken.input;
-        match came {
+        match taken.input {
             Input::Line(held) => {
-                let served = serve_front(output, language, line, held, bench, memory, text);
+                let served = serve(output, language, &line[..held], bench, memory, text);
                 bench = served.bench;
                 if served.over {
                     return bench;
                 }
             }
             Input::Last(held) => {
-                let served = serve_front(output, language, line, held, bench, memory, text);
-                return served.bench;
+                return serve(output, language, &line[..held], bench, memory, text).bench;
             }
         }
     }

@@ -10,7 +10,7 @@ pub fn flag_of(x: bool) -> u32
     ensures value { result ≡ flag x }
     ensures upper_bound { result ≤ 1 }
 {
-    if x { 1 } else { 0 }
+    u32::from(x)
 }
 
 pub fn written_bits(value: u32) -> u32
@@ -20,64 +20,60 @@ pub fn written_bits(value: u32) -> u32
     value & 0x0007FF70
 }
 
+#[tactic(auto, unfolding(crate::specs::Csr::csr_value))]
 pub fn csr_of(board: Board) -> u32
     ensures { result ≡ csr_value board }
 {
-    let bstat = board.status.bstat % 16;
-    let fof = flag_of(board.status.fof);
-    let trg = flag_of(board.status.trg);
-    let halt = flag_of(board.status.halt);
-    let bkpt = flag_of(board.status.bkpt);
-    let written = written_bits(board.debug.csr);
-    bstat * 0x10000000
-        + fof * 0x8000000
-        + trg * 0x4000000
-        + halt * 0x2000000
-        + bkpt * 0x1000000
+    let status = board.status;
+    status.bstat % 16 * 0x10000000
+        + flag_of(status.fof) * 0x8000000
+        + flag_of(status.trg) * 0x4000000
+        + flag_of(status.halt) * 0x2000000
+        + flag_of(status.bkpt) * 0x1000000
         + 0x100000
-        + written
+        + written_bits(board.debug.csr)
 }
 
+#[tactic(auto, unfolding(crate::specs::Csr::bstat_read))]
 fn bstat_after_read(bstat: u32) -> u32
     ensures { result ≡ bstat_read bstat }
 {
-    if bstat == 2 {
-        return 0;
+    match bstat {
+        2 | 6 => 0,
+        _ => bstat,
     }
-    if bstat == 6 {
-        return 0;
-    }
-    bstat
 }
 
 pub fn after_csr_read(status: Status) -> Status
     ensures { result ≡ after_csr_read status }
 {
-    let bstat = bstat_after_read(status.bstat);
-    let mut s = status;
-    s.fof = false;
-    s.trg = false;
-    s.halt = false;
-    s.bkpt = false;
-    s.bstat = bstat;
-    s
+    Status {
+        fof: false,
+        trg: false,
+        halt: false,
+        bkpt: false,
+        bstat: bstat_after_read(status.bstat),
+        ..status
+    }
 }
 
 pub fn after_go(status: Status) -> Status
     ensures { result ≡ after_go status }
 {
-    let mut s = status;
-    s.halted = false;
-    s.trg = false;
-    s.halt = false;
-    s.bkpt = false;
-    s
+    Status {
+        halted: false,
+        trg: false,
+        halt: false,
+        bkpt: false,
+        ..status
+    }
 }
 
 pub fn after_sync_pc(status: Status) -> Status
     ensures { result ≡ after_sync_pc status }
 {
-    let mut s = status;
-    s.sync = true;
-    s
+    Status {
+        sync: true,
+        ..status
+    }
 }

@@ -12,6 +12,14 @@ pub carried_next : (trace : List ℕ) (i : ℕ) (c : Carried) → c ≡ carried_
 unfolding carried_into
 carried_next trace i c e = rw (add-one i) (ap (λ (d : Carried). after d (pst trace i)) e)
 
+-- no PST but a marker is too soon
+pub never : (due : ℕ) → false ≡ cond (ltb due 2) false false
+never due = split (ltb due 2)
+  where
+    split : (t : Bool) → false ≡ cond t false false
+    split true = refl
+    split false = refl
+
 -- the bits of 0xBA are the PSTs below 8 that give an item
 pub single_bit : (p : ℕ) → p < 8 → eqb (bit_and (0xBA / 2 ^ p) 1) 1 ≡ single p
 single_bit zero h = refl
@@ -41,13 +49,6 @@ two_or_more due = split (ltb due 2) refl
     split : (t : Bool) → ltb due 2 ≡ t → leb 2 due ≡ cond t false true
     split true e = lt-leb 2 due (ltb-true due 2 e)
     split false e = le-leb 2 due (ltb-false due 2 e)
-
-pub never : (due : ℕ) → false ≡ cond (ltb due 2) false false
-never due = split (ltb due 2)
-  where
-    split : (t : Bool) → false ≡ cond t false false
-    split true = refl
-    split false = refl
 
 pub value_where : (trace : List ℕ) {a b n m : ℕ} → a ≡ b → n ≡ m → value trace a n ≡ value trace b m
 value_where trace e f = rw (e, f)

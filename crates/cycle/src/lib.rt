@@ -3,11 +3,11 @@
 
 ghost use Rattle.std.specs.Prelude.{◌≡◌, ℕ, ◌+◌, ◌-◌, List, length};
 ghost use Rattle.cycle.specs.Cycle.{nothing, reserved, single, marker, nibbles, ddata, value_ending, gives_own, too_soon, after};
-ghost use Rattle.cycle.specs.CycleItems.{items_at};
+ghost use Rattle.cycle.specs.CycleItems.{of_value, of_cycle, items_at};
 
 // What is under way where a cycle begins: the latest marker, how many of its nibbles are still due
 // (this cycle's among them), and the code of the run that the cycle stands in (0: none).
-#[derive(Clone, Copy)]
+#[derive(Clone, Copy, Debug, PartialEq, Eq)]
 pub struct Carried {
     pub marker: u8,
     pub due: u8,
@@ -15,11 +15,35 @@ pub struct Carried {
 }
 
 // An item of the listing. The value is 0 where the code is no marker's.
-#[derive(Clone, Copy)]
+#[derive(Clone, Copy, Debug, PartialEq, Eq)]
 pub struct Item {
     pub cycle: usize,
     pub code: u8,
     pub value: u32,
+}
+
+impl Item {
+    // The item of a value whose last nibble a cycle carries.
+    pub fn of_value(trace: &[u8], cycle: usize, marker: u8) -> Item
+        ensures { result ≡ of_value trace.now cycle marker }
+    {
+        Item {
+            cycle,
+            code: marker,
+            value: read_value(trace, cycle, marker),
+        }
+    }
+
+    // A cycle's own item.
+    pub fn of_cycle(cycle: usize, pst: u8) -> Item
+        ensures { result ≡ of_cycle cycle pst }
+    {
+        Item {
+            cycle,
+            code: pst,
+            value: 0,
+        }
+    }
 }
 
 // What is under way where a trace begins.
@@ -36,60 +60,40 @@ pub fn nothing_carried() -> Carried
 pub fn is_reserved(pst: u8) -> bool
     ensures { result ≡ reserved pst }
 {
-    if pst == 2 {
-        return true;
-    }
-    pst == 6
+    matches!(pst, 2 | 6)
 }
 
 pub fn is_marker(pst: u8) -> bool
     ensures { result ≡ marker pst }
 {
-    if pst < 8 {
-        return false;
-    }
-    pst < 12
+    matches!(pst, 8..=11)
 }
 
-// A bit for each PST below 8, and no jump.
 fn is_single(pst: u8) -> bool
     ensures { result ≡ single pst }
 {
-    if pst < 8 {
-        return (0xBAu8 >> pst) & 1 == 1;
-    }
-    false
+    matches!(pst, 1 | 3 | 4 | 5 | 7)
 }
 
 // Whether a cycle gives an item of its own, beside a value's.
 pub fn gives_own(run: u8, pst: u8) -> bool
     ensures { result ≡ gives_own run pst }
 {
-    if pst < 8 {
-        return is_single(pst);
-    }
-    if pst < 12 {
-        return false;
-    }
-    pst != run
+    if pst < 12 { is_single(pst) } else { pst != run }
 }
 
 // Whether a cycle is a marker before the last nibble of the transfer under way.
 pub fn comes_too_soon(due: u8, pst: u8) -> bool
     ensures { result ≡ too_soon due pst }
 {
-    if is_marker(pst) {
-        return 2 <= due;
-    }
-    false
+    2 <= due && is_marker(pst)
 }
 
 // How many items a cycle gives.
 pub fn count_items(carried: Carried, pst: u8) -> usize
     ensures { (trace : List ℕ) (i : ℕ) → result ≡ length (items_at trace i carried pst) }
 {
-    let own = gives_own(carried.run, pst);
-    ((carried.due == 1) as usize) + (own as usize)
+    usize::from(carried.due == 1) + usize::from(gives_own(carried.run, pst))
 }
 
 pub fn count_nibbles(marker: u8) -> u8
@@ -102,45 +106,37 @@ pub fn count_nibbles(marker: u8) -> u8
 pub fn after_cycle(carried: Carried, pst: u8) -> Carried
     ensures { result ≡ after carried pst }
 {
-    if pst < 8 {
-        return Carried {
-            marker: carried.marker,
-            due: one_less(carried.due),
+    let due = carried.due.saturating_sub(1);
+    match pst {
+        0..=7 => Carried {
+            due,
             run: 0,
-        };
-    }
-    if pst < 12 {
-        return Carried {
+            ..carried
+        },
+        8..=11 => Carried {
             marker: pst,
             due: count_nibbles(pst),
-            run: carried.run,
-        };
+            ..carried
+        },
+        _ => Carried {
+            due,
+            run: pst,
+            ..carried
+        },
     }
-    Carried {
-        marker: carried.marker,
-        due: one_less(carried.due),
-        run: pst,
-    }
-}
-
-fn one_less(due: u8) -> u8
-    ensures { result ≡ due - 1 }
-{
-    if due == 0 { 0 } else { due - 1 }
 }
 
 fn ddata_at(trace: &[u8], i: usize) -> u8
     ensures { result ≡ ddata trace.now i }
 {
-    if i < trace.len() { trace[i] % 16 } else { 0 }
+    trace.get(i).map_or(0, |byte| byte % 16)
 }
 
 // The cycle of a value's first nibble.
 fn first_nibble(last: usize, marker: u8) -> usize
     ensures { result ≡ last + 1 - nibbles marker }
 {
-    let n = count_nibbles(marker) as usize;
-    if last < n { 0 } else { last - n + 1 }
+    last.saturating_sub(usize::from(count_nibbles(marker)) - 1)
 }
 
 // The value of a marker, read back from its nibbles once the last has come.
@@ -148,12 +144,10 @@ pub fn read_value(trace: &[u8], last: usize, marker: u8) -> u32
     ensures { result ≡ value_ending trace.now last marker }
 {
     let from = first_nibble(last, marker);
-    let n = count_nibbles(marker) as usize;
-    let mut k = n;
-    let mut v = 0u32;
-    while 0 < k {
-        k -= 1;
-        v = v * 16 + ddata_at(trace, from + k) as u32;
+    let n = usize::from(count_nibbles(marker));
+    let mut v = 0;
+    for k in (0..n).rev() {
+        v = v * 16 + u32::from(ddata_at(trace, from + k));
     }
     v
 }

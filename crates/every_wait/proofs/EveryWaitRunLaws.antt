@@ -1,5 +1,5 @@
 -- Laws of [10] in packets: over a list the words and NOPs come to the same at every W, and only their number grows.
-use Rattle.std.specs.Prelude.{ℕ, ◌+◌, ◌*◌, ◌≤◌, ◌≡◌, Bool, true, false, cond, length, Err, Ok, Result, ⊤}
+use Rattle.std.specs.Prelude.{ℕ, ◌+◌, ◌*◌, ◌≤◌, ◌≡◌, Bool, true, false, cond, length, Err, Ok, Result as StdResult, ⊤}
 use Rattle.grounds.specs.declared.Ground.{Ground}
 use Rattle.std.proofs.Common.{arith, mul-add, ap, sym, ◌∙◌, subst, length-append}
 use Rattle.std.proofs.Math.Path.{refl}
@@ -114,7 +114,7 @@ legal_taken : (request : Request) (s : Scene) → Sound (resting s complete) →
 unfolding state_there
 legal_taken request s f legal = by_verdict (exchange_verdict request (resting s complete)) refl
   where
-    by_verdict : (v : Result ⊤ Ground) → exchange_verdict request (resting s complete) ≡ v → LegalTaken request s
+    by_verdict : (v : StdResult ⊤ Ground) → exchange_verdict request (resting s complete) ≡ v → LegalTaken request s
     by_verdict (Err why) e = let no : false ≡ true = rw e at legal in let one : ◌≡◌ {A = ℕ} 0 1 = cc in absurd (omega arith)
     by_verdict (Ok _) e =
         let h = (accepted_is_within request (resting s complete) e).asked in

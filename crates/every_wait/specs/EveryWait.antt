@@ -1,5 +1,5 @@
 -- [10] The same answers at every wait setting: a list of requests, each sent and read to its end by `exchange`, and what is said of it at each W.
-use Rattle.std.specs.Prelude.{ℕ, ◌≤◌, ◌≡◌, Bool, true, false, List, [], ◌∷◌, map, Err, Ok, Result}
+use Rattle.std.specs.Prelude.{ℕ, ◌≤◌, ◌≡◌, Bool, true, false, List, [], ◌∷◌, map, Err, Ok, Result as StdResult}
 use Rattle.grounds.specs.declared.Ground.{Ground}
 use Rattle.grounds.specs.Grounds.{if_accepted}
 use Rattle.board.specs.declared.Board.{Board}
@@ -20,11 +20,11 @@ abbrev pub fresh_at : ℕ → List ℕ → State
 fresh_at w m = state_of (fresh_board w) fresh_place m
 
 -- what `exchange` answers, by its contract
-abbrev pub answer_to : Request → State → Result (Outcome × ℕ) Ground
+abbrev pub answer_to : Request → State → StdResult (Outcome × ℕ) Ground
 answer_to request s = answered_as (exchange_verdict request s) (ended_there request s)
 
 -- "any list of requests sent and read by the pod's half to its end": each finds what the one before left
-unfoldable pub answers : List Request → State → List (Result (Outcome × ℕ) Ground)
+unfoldable pub answers : List Request → State → List (StdResult (Outcome × ℕ) Ground)
 answers [] s = []
 answers (request ∷ requests) s = answer_to request s ∷ answers requests (exchange_leaves request s)
 
@@ -54,7 +54,7 @@ pub data Result : Type 0 where
   came : Outcome → Result
   refused : Ground → Result
 
-abbrev pub result_of : Result (Outcome × ℕ) Ground → Result
+abbrev pub result_of : StdResult (Outcome × ℕ) Ground → Result
 result_of (Ok (outcome, packets)) = Result.came outcome
 result_of (Err why) = Result.refused why
 
@@ -95,7 +95,7 @@ Called [] s (call ∷ calls) = ⊥
 Called (request ∷ requests) s [] = ⊥
 Called (request ∷ requests) s (call ∷ calls) = ExchangeMeets request s call.returned call.memory × Called requests (left_in call) calls
 
-abbrev pub answers_in : List Call → List (Result (Outcome × ℕ) Ground)
+abbrev pub answers_in : List Call → List (StdResult (Outcome × ℕ) Ground)
 answers_in calls = map (λ (call : Call). call.returned.answer) calls
 
 abbrev pub last_in : State → List Call → State

@@ -1,5 +1,5 @@
 -- Examples of [10]: a list of requests at two settings, and a list that shows where W does play a part: a pod that does not bring the port to rest.
-use Rattle.std.specs.Prelude.{ℕ, ◌≡◌, refl, List, [], ◌∷◌, Ok, Result}
+use Rattle.std.specs.Prelude.{ℕ, ◌≡◌, refl, List, [], ◌∷◌, Ok, Result as StdResult}
 use Rattle.memory.specs.declared.Size.TheVariants.{Byte, Word, Long}
 use Rattle.memory.specs.Memory.{fetched}
 use Rattle.command.specs.Command.{decoded, decoded_word}

@@ -1,5 +1,5 @@
 -- Laws: one request at another wait setting. It is refused or legal alike, its result is the same, and it leaves the same but for W.
-use Rattle.std.specs.Prelude.{ℕ, zero, suc, ◌≤◌, ◌≡◌, refl, true, false, ◌||◌, not, [], ◌∷◌, ◌++◌, length, Err, Ok, Result, ⊤}
+use Rattle.std.specs.Prelude.{ℕ, zero, suc, ◌≤◌, ◌≡◌, refl, true, false, ◌||◌, not, [], ◌∷◌, ◌++◌, length, Err, Ok, Result as StdResult, ⊤}
 use Rattle.grounds.specs.declared.Ground.{Ground}
 use Rattle.std.proofs.Common.{arith, ap, sym, ◌∙◌, subst}
 use Rattle.laws.specs.TestLaws.{by_test, both_hold}
@@ -187,7 +187,7 @@ pub record SameRequest (w : ℕ) (request : Request) (s : State) : Type 0 where
 pub same_request : (w : ℕ) (request : Request) {s : State} → w ≤ 15 → Ready s → SameRequest w request s
 same_request w request {s} small r = by_verdict (exchange_verdict request s) refl
   where
-    by_verdict : (v : Result ⊤ Ground) → exchange_verdict request s ≡ v → SameRequest w request s
+    by_verdict : (v : StdResult ⊤ Ground) → exchange_verdict request s ≡ v → SameRequest w request s
     by_verdict (Err why) e =
         let e' = verdict_at w request small r ∙ e in record { legal = rw (e, e'); result = rw (e, e'); leaves = rw (e, e'); ready = rw e r }
     by_verdict (Ok _) e =

@@ -29,8 +29,7 @@ fn answer_of(reader: Reader, packets: u32) -> Result<(Outcome, u32), Ground>
     ensures { result ≡ answer_of reader packets }
 {
     match reader {
-        Reader::First => Err(Ground::ImpossibleReply),
-        Reader::Second(_) => Err(Ground::ImpossibleReply),
+        Reader::First | Reader::Second(_) => Err(Ground::ImpossibleReply),
         Reader::Closed(outcome) => Ok((outcome, packets)),
         Reader::Bad(ground) => Err(ground),
     }
@@ -42,16 +41,11 @@ fn rest_and_converse(request: Request, board: Board, place: Place, memory: &mut 
         × (state_of result.board result.place memory.new ≡ state_there request (rest_scene (state_of board place memory.old))) }
 {
     let rested = talk::bring_to_rest(board, place, memory);
-    let rest_board = rested.board;
-    let rest_place = rested.place;
-    let talked = talk::converse(request, rest_board, rest_place, memory);
-    let reader = talked.reader;
-    let board_next = talked.board;
-    let place_next = talked.place;
+    let talked = talk::converse(request, rested.board, rested.place, memory);
     Returned {
-        answer: answer_of(reader, rested.nops + talked.packets as u32),
-        board: board_next,
-        place: place_next,
+        answer: answer_of(talked.reader, rested.nops + talked.packets as u32),
+        board: talked.board,
+        place: talked.place,
     }
 }
 
@@ -70,8 +64,7 @@ fn note_phase(phase: Phase)
 fn note_types(board: Board, place: Place, memory: &[u8])
     ensures { Typed (state_of board place memory.now) }
 {
-    let phase = place.phase;
-    note_phase(phase);
+    note_phase(place.phase);
 }
 
 // A place that is not at rest is brought to rest with NOPs, which are counted. Then the request's words go out one by one, and NOPs after them, until a reply
@@ -85,8 +78,8 @@ pub fn exchange(request: Request, board: Board, place: Place, memory: &mut [u8])
         Ok(()) => rest_and_converse(request, board, place, memory),
         Err(ground) => Returned {
             answer: Err(ground),
-            board: board,
-            place: place,
+            board,
+            place,
         },
     }
 }

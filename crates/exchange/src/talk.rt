@@ -45,68 +45,52 @@ fn send(board: Board, place: Place, memory: &mut [u8], word: u32) -> Sent
         × (state_of result.board result.place memory.new ≡ stepped (state_of board place memory.old) word) }
 {
     let answer = port::take_packet(board, place, memory, word);
-    let outcome = answer.outcome;
-    let board_next = answer.board;
-    let place_next = answer.place;
-    match outcome {
-        Ok(reply) => Sent {
-            reply: reply,
-            board: board_next,
-            place: place_next,
-        },
-        // No packet of an exchange is refused.
-        Err(_) => Sent {
-            reply: 0,
-            board: board_next,
-            place: place_next,
-        },
+    // No packet of an exchange is refused.
+    let Ok(reply) = answer.outcome else {
+        unreachable!();
+    };
+    Sent {
+        reply,
+        board: answer.board,
+        place: answer.place,
     }
 }
 
 fn is_resting(place: Place) -> bool
     ensures { result ≡ at_rest place.phase }
 {
-    let phase = place.phase;
-    match phase {
-        Phase::Rest => true,
-        Phase::Due(_, _, _) => false,
-        Phase::Waiting(_, _, _, _) => false,
-        Phase::Upper(_) => false,
-    }
+    matches!(place.phase, Phase::Rest)
 }
 
-pub fn bring_to_rest(board: Board, place: Place, memory: &mut [u8]) -> Rested
+pub fn bring_to_rest(mut board: Board, mut place: Place, memory: &mut [u8]) -> Rested
     requires { Sound (state_of board place memory.old) }
     ensures { (state_of result.board result.place memory.new ≡ rested rest_budget (state_of board place memory.old))
         × (result.nops ≡ rest_nops rest_budget (state_of board place memory.old)) }
 {
-    let mut b = board;
-    let mut p = place;
-    let mut n = 0;
-    while !is_resting(p) {
-        let sent = send(b, p, memory, 0);
-        b = sent.board;
-        p = sent.place;
-        n += 1;
+    let mut nops = 0;
+    while !is_resting(place) {
+        let sent = send(board, place, memory, 0);
+        board = sent.board;
+        place = sent.place;
+        nops += 1;
     }
-    Rested {
-        nops: n,
-        board: b,
-        place: p,
-    }
+    Rested { nops, board, place }
 }
 
 fn word_at(words: &[u32], i: usize) -> u32
     ensures { result ≡ get_or words.now i 0 }
 {
-    if i < words.len() {
-        return words[i];
-    }
-    0
+    words.get(i).copied().unwrap_or(0)
 }
 
 // From the reply to the packet after the command word on.
-fn read_on(request: Request, words: &[u32], board: Board, place: Place, memory: &mut [u8]) -> Talked
+fn read_on(
+    request: Request,
+    words: &[u32],
+    mut board: Board,
+    mut place: Place,
+    memory: &mut [u8],
+) -> Talked
     requires { Sound (state_of board place memory.old) × (in_range request ≡ true)
         × (done (from_command request (state_of board place memory.old)).reader ≡ true)
         × ((i : ℕ) → get_or words.now i 0 ≡ get_or (built_words request) i 0) }
@@ -115,21 +99,19 @@ fn read_on(request: Request, words: &[u32], board: Board, place: Place, memory: 
 {
     let mut reader = Reader::First;
     let mut packets = 1;
-    let mut b = board;
-    let mut p = place;
     while !readings::is_done(reader) {
         let word = word_at(words, packets);
-        let sent = send(b, p, memory, word);
+        let sent = send(board, place, memory, word);
         reader = readings::take_reply(requests::kind_of(request), reader, sent.reply);
-        b = sent.board;
-        p = sent.place;
+        board = sent.board;
+        place = sent.place;
         packets += 1;
     }
     Talked {
-        reader: reader,
-        packets: packets,
-        board: b,
-        place: p,
+        reader,
+        packets,
+        board,
+        place,
     }
 }
 
@@ -139,11 +121,8 @@ pub fn converse(request: Request, board: Board, place: Place, memory: &mut [u8])
         ≡ exchanged request (state_of board place memory.old) }
 {
     let mut words = [0u32; 5];
-    building::build(request, &mut words);
-    let command_word = words[0];
-    // Its reply belongs to what came before, and is not read.
-    let sent = send(board, place, memory, command_word);
-    let board_next = sent.board;
-    let place_next = sent.place;
-    read_on(request, &words, board_next, place_next, memory)
+    let _ = building::build(request, &mut words);
+    // The command word's reply belongs to what came before, and is not read.
+    let sent = send(board, place, memory, words[0]);
+    read_on(request, &words, sent.board, sent.place, memory)
 }

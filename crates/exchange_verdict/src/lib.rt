@@ -9,17 +9,23 @@ use board::{Board, Place};
 use grounds::Ground;
 use requests::Request;
 
-pub fn judge_exchange(request: Request, board: Board, place: Place, memory: &[u8]) -> Result<(), Ground>
+#[tactic(auto, unfolding(crate::specs::ExchangeVerdict::exchange_verdict))]
+pub fn judge_exchange(
+    request: Request,
+    board: Board,
+    place: Place,
+    memory: &[u8],
+) -> Result<(), Ground>
     ensures { result ≡ exchange_verdict request (state_of board place memory.now) }
 {
-    if requests::is_in_range(request) {
-        if ranges::is_in_range(board, place) {
-            if memory.len() <= 65536 {
-                return Ok(());
-            }
-            return Err(Ground::MemoryTooLong);
-        }
+    if !requests::is_in_range(request) {
+        return Err(Ground::RequestOutOfRange);
+    }
+    if !ranges::is_in_range(board, place) {
         return Err(Ground::StateOutOfRange);
     }
-    Err(Ground::RequestOutOfRange)
+    if 65536 < memory.len() {
+        return Err(Ground::MemoryTooLong);
+    }
+    Ok(())
 }

@@ -81,7 +81,8 @@ module _ (b : Board) (p : Place) (f : Option ℕ) where
   unfolding breakpoint_verdict in_range
   breakpoint_forgotten = refl
 
-  status_by : (v : Result ⊤ Ground) (s : Status) → with_fault (if_accepted v (with_status b s) b) f ≡ if_accepted v (with_status (with_fault b f) s) (with_fault b f)
+  status_by : (v : Result ⊤ Ground) (s : Status)
+      → with_fault (if_accepted v (with_status b s) b) f ≡ if_accepted v (with_status (with_fault b f) s) (with_fault b f)
   status_by (Ok _) s = refl
   status_by (Err g) s = refl
 

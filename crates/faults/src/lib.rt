@@ -14,15 +14,8 @@ pub fn after_word(phase: Phase, word: u32, fault: Option<u32>) -> Option<u32>
     ensures { result ≡ fault_taken (taken_for phase) word fault }
 {
     match phase {
-        Phase::Rest => {
-            if word == 0 {
-                return fault;
-            }
-            None
-        }
-        Phase::Due(_, _, _) => fault,
-        Phase::Waiting(_, _, _, _) => fault,
-        Phase::Upper(_) => fault,
+        Phase::Rest if word != 0 => None,
+        _ => fault,
     }
 }
 
@@ -32,8 +25,7 @@ fn of_bus_error(access: Access, fault: Option<u32>) -> Option<u32>
     match access {
         // A control register: its error keeps none.
         Access::NoAccess => fault,
-        Access::Fetched(_, _, _) => fault,
-        Access::Stored(_) => fault,
+        Access::Fetched(_, _, _) | Access::Stored(_) => fault,
         Access::Missing(first) => Some(first),
     }
 }
@@ -42,9 +34,7 @@ pub fn after_work(ending: Ending, access: Access, fault: Option<u32>) -> Option<
     ensures { result ≡ fault_after ending access fault }
 {
     match ending {
-        Ending::Complete => fault,
         Ending::Failed => of_bus_error(access, fault),
-        Ending::OneWord(_) => fault,
-        Ending::TwoWords(_) => fault,
+        Ending::Complete | Ending::OneWord(_) | Ending::TwoWords(_) => fault,
     }
 }

@@ -2,15 +2,15 @@
 #![tactic(auto)]
 
 ghost use Rattle.std.specs.Prelude.{◌≡◌};
-ghost use Rattle.firing.specs.Firing.{bstat_after, responds, firing_of, firing, ssm, halt_of, captured, seen, status_after};
+ghost use Rattle.firing.specs.Firing.{bstat_after, responds, firing_of, firing, ssm, halt_of, halted, captured, seen, status_after};
 ghost use Rattle.firing.specs.Breakpoint.{bkd, pressed, status_pressed};
 
-use board::{Debug, Status};
+use board::Status;
 use halting::Halting;
 use trigger::Event;
 
 // The level fired or 0, BSTAT after it, and the response that comes with it.
-#[derive(Clone, Copy)]
+#[derive(Clone, Copy, Debug, PartialEq, Eq)]
 pub struct Firing {
     pub level: u32,
     pub bstat: u32,
@@ -19,7 +19,7 @@ pub struct Firing {
 }
 
 // What an event that is taken is answered.
-#[derive(Clone, Copy)]
+#[derive(Clone, Copy, Debug, PartialEq, Eq)]
 pub struct Seen {
     pub level: u32,
     pub halted: bool,
@@ -29,32 +29,29 @@ pub struct Seen {
 }
 
 // What the breakpoint input is answered.
-#[derive(Clone, Copy)]
+#[derive(Clone, Copy, Debug, PartialEq, Eq)]
 pub struct Pressed {
     pub halted: bool,
     pub interrupt: bool,
 }
 
+#[tactic(auto, unfolding(crate::specs::Firing::bstat_after))]
 fn bstat_after(level: u32, tdr: u32, bstat: u32) -> u32
     ensures { result ≡ bstat_after level tdr bstat }
 {
-    if level == 1 {
-        let two = trigger::levels::level_two(tdr);
-        if two.ebl {
-            return 5;
-        }
-        return 2;
+    match level {
+        1 if trigger::levels::level_two(tdr).ebl => 5,
+        1 => 2,
+        2 => 6,
+        _ => bstat,
     }
-    if level == 2 {
-        return 6;
-    }
-    bstat
 }
 
+#[tactic(auto, unfolding(crate::specs::Firing::responds))]
 fn is_response(level: u32, after: u32) -> bool
     ensures { result ≡ responds level after }
 {
-    !(level == 0) & ((after == 2) | (after == 6))
+    level != 0 && (after == 2 || after == 6)
 }
 
 fn firing_of(level: u32, tdr: u32, bstat: u32) -> Firing
@@ -64,94 +61,97 @@ fn firing_of(level: u32, tdr: u32, bstat: u32) -> Firing
     let comes = is_response(level, after);
     let response = tdr / 0x40000000 % 4;
     Firing {
-        level: level,
+        level,
         bstat: after,
-        halts: comes & (response == 1),
-        interrupts: comes & (response == 2),
+        halts: comes && response == 1,
+        interrupts: comes && response == 2,
     }
 }
 
-pub fn fire(status: Status, debug: Debug, event: Event) -> Firing
+#[tactic(auto, unfolding(crate::specs::Firing::firing))]
+pub fn fire(status: Status, debug: board::Debug, event: Event) -> Firing
     ensures { result ≡ firing status debug event }
 {
     let level = trigger::fired_level(status.bstat, debug, event);
     firing_of(level, debug.tdr, status.bstat)
 }
 
-fn is_ssm(debug: Debug) -> bool
+fn is_ssm(debug: board::Debug) -> bool
     ensures { result ≡ ssm debug }
 {
     debug.csr / 0x10 % 2 == 1
 }
 
-fn judge_halt(debug: Debug, event: Event) -> Halting
+fn judge_halt(debug: board::Debug, event: Event) -> Halting
     ensures { result ≡ halt_of debug event }
 {
-    let mark = event.mark;
-    halting::judge(mark, debug.csr / 0x400 % 2 == 1)
+    halting::judge(event.mark, debug.csr / 0x400 % 2 == 1)
+}
+
+fn is_halted(debug: board::Debug, event: Event, fired: Firing) -> bool
+    ensures { result ≡ halted debug event fired }
+{
+    fired.halts || is_ssm(debug) || halting::is_halting(judge_halt(debug, event))
 }
 
 fn capture(sync: bool, pc: u32) -> Option<u32>
     ensures { result ≡ captured sync pc }
 {
-    if sync {
-        return Some(pc);
-    }
-    None
+    sync.then_some(pc)
 }
 
-pub fn see(status: Status, debug: Debug, event: Event, fired: Firing) -> Seen
+#[tactic(auto, unfolding(crate::specs::Firing::seen))]
+pub fn see(status: Status, debug: board::Debug, event: Event, fired: Firing) -> Seen
     ensures { result ≡ seen status debug event fired }
 {
-    let single = is_ssm(debug);
-    let halting = judge_halt(debug, event);
-    let itself = halting::is_halting(halting);
-    let pc = capture(status.sync, event.pc);
     Seen {
         level: fired.level,
-        halted: fired.halts | (single | itself),
+        halted: is_halted(debug, event, fired),
         interrupt: fired.interrupts,
-        captured: pc,
-        halting: halting,
+        captured: capture(status.sync, event.pc),
+        halting: judge_halt(debug, event),
     }
 }
 
-pub fn status_after(status: Status, debug: Debug, event: Event, fired: Firing) -> Status
+#[tactic(auto, unfolding(crate::specs::Firing::status_after))]
+pub fn status_after(status: Status, debug: board::Debug, event: Event, fired: Firing) -> Status
     ensures { result ≡ status_after status debug event fired }
 {
-    let single = is_ssm(debug);
-    let halting = judge_halt(debug, event);
-    let itself = halting::is_halting(halting);
-    let mut s = status;
-    s.halted = fired.halts | (single | itself);
-    s.trg = status.trg | fired.halts;
-    s.halt = status.halt | itself;
-    s.bstat = fired.bstat;
-    s.sync = false;
-    s
+    let itself = halting::is_halting(judge_halt(debug, event));
+    Status {
+        halted: is_halted(debug, event, fired),
+        trg: status.trg || fired.halts,
+        halt: status.halt || itself,
+        bstat: fired.bstat,
+        sync: false,
+        ..status
+    }
 }
 
-fn is_bkd(debug: Debug) -> bool
+fn is_bkd(debug: board::Debug) -> bool
     ensures { result ≡ bkd debug }
 {
     debug.csr / 0x40000 % 2 == 1
 }
 
-pub fn press(status: Status, debug: Debug) -> Pressed
+#[tactic(auto, unfolding(crate::specs::Breakpoint::pressed))]
+pub fn press(status: Status, debug: board::Debug) -> Pressed
     ensures { result ≡ pressed status debug }
 {
     let disabled = is_bkd(debug);
     Pressed {
-        halted: !status.halted & !disabled,
-        interrupt: !status.halted & disabled,
+        halted: !status.halted && !disabled,
+        interrupt: !status.halted && disabled,
     }
 }
 
+#[tactic(auto, unfolding(crate::specs::Breakpoint::status_pressed))]
 pub fn status_pressed(status: Status, press: Pressed) -> Status
     ensures { result ≡ status_pressed status press }
 {
-    let mut s = status;
-    s.halted = status.halted | press.halted;
-    s.bkpt = status.bkpt | press.halted;
-    s
+    Status {
+        halted: status.halted || press.halted,
+        bkpt: status.bkpt || press.halted,
+        ..status
+    }
 }

@@ -24,14 +24,9 @@ use visit::{Next, Visit};
 fn send(output: Stdout, visit: Visit, packet: &mut [u8])
     ensures { packet.new ≡ laid packet.old (packet_line visit) }
 {
-    let next = visit::next_packet(visit);
-    match next {
-        Next::Send(word) => {
-            let end = visit_text::put_packet(packet, word);
-            console::say(output, packet, end);
-        }
-        Next::EndsAsRead => {}
-        Next::EndsNotRead(_, _) => {}
+    if let Next::Send(word) = visit::next_packet(visit) {
+        let end = visit_text::put_packet(packet, word);
+        console::say(output, packet, end);
     }
 }
 
@@ -56,21 +51,6 @@ fn take_line(
     }
 }
 
-fn take_front(
-    output: Stdout,
-    visit: Visit,
-    line: &[u8],
-    held: usize,
-    notes: &mut [u64],
-    packet: &mut [u8],
-) -> Visit
-    requires { held ≤ length line.now }
-    ensures { LineMeets (take held line.now) visit notes.old packet.old
-        result notes.new packet.new }
-{
-    take_line(output, visit, &line[..held], notes, packet)
-}
-
 // Line after line from what is unread of the source on, until the visit is over: answers are awaited only where the first packet has gone out. The budget of
 // lines is never used up.
 fn take_lines(
@@ -90,22 +70,18 @@ fn take_lines(
 {
     let mut visit = start;
     let mut unread = first;
-    let mut budget: u64 = 0xFFFFFFFFFFFFFFFF;
-    while 0 < budget {
-        budget -= 1;
-        let stage = visit.stage;
-        if visit::is_over(stage) {
+    for _ in 0..u64::MAX {
+        if visit::is_over(visit.stage) {
             return visit;
         }
         let taken = console::next_line(input, source, unread, line);
         unread = taken.unread;
-        let came = taken.input;
-        match came {
+        match taken.input {
             Input::Line(held) => {
-                visit = take_front(output, visit, line, held, notes, packet);
+                visit = take_line(output, visit, &line[..held], notes, packet);
             }
             Input::Last(held) => {
-                let last = take_front(output, visit, line, held, notes, packet);
+                let last = take_line(output, visit, &line[..held], notes, packet);
                 return visit::lose(last);
             }
         }
@@ -146,10 +122,8 @@ fn tell_results(errors: &mut Stderr, visit: Visit, notes: &[u64], text: &mut [u8
     ensures { text.new ≡ laid text.old (read_parts (length text.old) visit notes.now) }
 {
     let mut at = 0usize;
-    let mut j = 0u32;
-    while j < visit.ends {
+    for j in 0..visit.ends {
         at = add_result(errors, visit, notes, j, text, at);
-        j += 1;
     }
     let end = add_read(errors, visit, text, at);
     console::write_to(errors, text, end);
@@ -159,8 +133,7 @@ fn tell_results(errors: &mut Stderr, visit: Visit, notes: &[u64], text: &mut [u8
 fn tell_end(errors: &mut Stderr, visit: Visit, notes: &[u64], text: &mut [u8])
     ensures { text.new ≡ laid text.old (end_parts (length text.old) visit notes.now) }
 {
-    let next = visit::next_packet(visit);
-    match next {
+    match visit::next_packet(visit) {
         // A visit that is over sends no packet.
         Next::Send(_) => {}
         Next::EndsAsRead => tell_results(errors, visit, notes, text),

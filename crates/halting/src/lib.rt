@@ -5,14 +5,14 @@ ghost use Rattle.std.specs.Prelude.{◌≡◌};
 ghost use Rattle.halting.specs.Halting.{allowed, halt_at, halting, halts_itself};
 
 // What an instruction runs at.
-#[derive(Clone, Copy)]
+#[derive(Clone, Copy, Debug, PartialEq, Eq)]
 pub enum Privilege {
     User,
     Supervisor,
 }
 
 // What becomes of it: there is no HALT, it halts the processor, or it halts nothing.
-#[derive(Clone, Copy)]
+#[derive(Clone, Copy, Debug, PartialEq, Eq)]
 pub enum Halting {
     NoHalt,
     Halts,
@@ -22,21 +22,20 @@ pub enum Halting {
 fn is_allowed(privilege: Privilege, uhe: bool) -> bool
     ensures { result ≡ allowed privilege uhe }
 {
-    match privilege {
-        Privilege::Supervisor => true,
-        Privilege::User => uhe,
-    }
+    privilege == Privilege::Supervisor || uhe
 }
 
 fn halt_at(privilege: Privilege, uhe: bool) -> Halting
     ensures { result ≡ halt_at privilege uhe }
 {
     if is_allowed(privilege, uhe) {
-        return Halting::Halts;
+        Halting::Halts
+    } else {
+        Halting::Ignored
     }
-    Halting::Ignored
 }
 
+#[tactic(auto, unfolding(crate::specs::Halting::halting))]
 pub fn judge(mark: Option<Privilege>, uhe: bool) -> Halting
     ensures { result ≡ halting mark uhe }
 {
@@ -49,9 +48,5 @@ pub fn judge(mark: Option<Privilege>, uhe: bool) -> Halting
 pub fn is_halting(halting: Halting) -> bool
     ensures { result ≡ halts_itself halting }
 {
-    match halting {
-        Halting::NoHalt => false,
-        Halting::Halts => true,
-        Halting::Ignored => false,
-    }
+    halting == Halting::Halts
 }

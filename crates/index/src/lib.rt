@@ -4,11 +4,11 @@
 ghost use Rattle.std.specs.Prelude.{◌≡◌};
 ghost use Rattle.index.specs.Entry.{of_word, EntryMeets};
 
-use trace::Refused;
 use cycle::Carried;
+use trace::Refused;
 
 // What stands before a cycle: how many items, and what is under way where the cycle begins.
-#[derive(Clone, Copy)]
+#[derive(Clone, Copy, Debug, PartialEq, Eq)]
 pub struct Entry {
     pub cycle: usize,
     pub items: usize,
@@ -37,6 +37,5 @@ pub fn read_entry(cycle: usize, word: u32) -> Entry
 pub fn list_from(trace: &[u8], entry: Entry, out: &mut [u32]) -> Result<usize, Refused>
     ensures { EntryMeets trace.now entry out.old result out.new }
 {
-    let found = entry.carried;
-    listing::list_from(trace, entry.cycle, found, out)
+    listing::list_from(trace, entry.cycle, entry.carried, out)
 }

@@ -5,6 +5,9 @@ ghost use Rattle.languages.specs.HelpText.{request_names, own_names, help_text};
 use crate::Language;
 use text::put_text;
 
+// The first words of the lines that stand_in answers.
+const BOARD_WORDS: &[u8] = b"help make memory bytes packet event breakpoint peek state";
+
 fn put_requests(text: &mut [u8], at: usize) -> usize
     ensures { Puts text.old at request_names text.new result }
 {
@@ -20,11 +23,7 @@ fn put_own(language: Language, text: &mut [u8]) -> usize
     ensures { Puts text.old 0 (own_names language) text.new result }
 {
     match language {
-        Language::StandIn => put_text(
-            text,
-            0,
-            b"help make memory bytes packet event breakpoint peek state",
-        ),
+        Language::StandIn => put_text(text, 0, BOARD_WORDS),
         Language::Talk => {
             let at = put_text(
                 text,
@@ -34,11 +33,7 @@ fn put_own(language: Language, text: &mut [u8]) -> usize
             put_requests(text, at)
         }
         Language::Both => {
-            let at = put_text(
-                text,
-                0,
-                b"help make memory bytes packet event breakpoint peek state",
-            );
+            let at = put_text(text, 0, BOARD_WORDS);
             put_requests(text, at)
         }
         Language::Pod => put_text(text, 0, b"help build read"),

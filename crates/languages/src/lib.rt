@@ -12,7 +12,7 @@ use talk_lines::TalkLine;
 mod help;
 
 // Which lines are taken.
-#[derive(Clone, Copy)]
+#[derive(Clone, Copy, Debug, PartialEq, Eq)]
 pub enum Language {
     // `packet`, and no request
     StandIn,
@@ -33,6 +33,7 @@ pub enum Heard {
     ToQuit,
 }
 
+#[tactic(auto, unfolding(crate::specs::Heard::heard_own))]
 fn hear_own(language: Language, line: &[u8]) -> Heard
     ensures { result ≡ heard_own language line.now }
 {
@@ -44,6 +45,7 @@ fn hear_own(language: Language, line: &[u8]) -> Heard
     }
 }
 
+#[tactic(auto, unfolding(crate::specs::Heard::heard))]
 fn hear(language: Language, line: &[u8]) -> Heard
     ensures { result ≡ heard language line.now }
 {
@@ -54,6 +56,7 @@ fn hear(language: Language, line: &[u8]) -> Heard
     }
 }
 
+#[tactic(auto, unfolding(crate::specs::Heard::after, crate::specs::Heard::said_to))]
 fn answer_of_bench(
     asked: TalkLine,
     line: &[u8],
@@ -71,6 +74,7 @@ fn answer_of_bench(
 }
 
 // A line's answer in the text, and the bench after it.
+#[tactic(auto, unfolding(crate::specs::Heard::after, crate::specs::Heard::said_to))]
 pub fn answer(
     language: Language,
     line: &[u8],
@@ -81,19 +85,18 @@ pub fn answer(
     ensures { HeardMeets line.now (heard language line.now) bench memory.old text.old
         result memory.new text.new }
 {
-    let meant = hear(language, line);
-    match meant {
+    match hear(language, line) {
         Heard::OfBench(asked) => answer_of_bench(asked, line, bench, memory, text),
         Heard::OfPod => Answered {
-            bench: bench,
+            bench,
             end: pod_answers::answer(line, text),
         },
         Heard::ForHelp(asked) => Answered {
-            bench: bench,
+            bench,
             end: help::put_help(asked, text),
         },
         Heard::ToQuit => Answered {
-            bench: bench,
+            bench,
             end: text::put_text(text, 0, b"bye"),
         },
     }

@@ -10,21 +10,13 @@ use command::{Base, Command};
 fn is_dumping(chain: Chain) -> bool
     ensures { result ≡ is_dumping chain }
 {
-    match chain {
-        Chain::Off => false,
-        Chain::Dumping => true,
-        Chain::Filling => false,
-    }
+    chain == Chain::Dumping
 }
 
 fn is_filling(chain: Chain) -> bool
     ensures { result ≡ is_filling chain }
 {
-    match chain {
-        Chain::Off => false,
-        Chain::Dumping => false,
-        Chain::Filling => true,
-    }
+    chain == Chain::Filling
 }
 
 fn may_follow(command: Command, chain: Chain) -> bool
@@ -32,29 +24,18 @@ fn may_follow(command: Command, chain: Chain) -> bool
 {
     match command {
         Command::Unknown => false,
-        Command::Nop => true,
-        Command::Load(_, base) => match base {
-            Base::Address => true,
-            Base::Pointer => is_dumping(chain),
-        },
-        Command::Store(_, base) => match base {
-            Base::Address => true,
-            Base::Pointer => is_filling(chain),
-        },
-        Command::Show(_) => true,
-        Command::Change(_) => true,
+        Command::Load(_, Base::Pointer) => is_dumping(chain),
+        Command::Store(_, Base::Pointer) => is_filling(chain),
+        Command::Nop
+        | Command::Load(_, Base::Address)
+        | Command::Store(_, Base::Address)
+        | Command::Show(_)
+        | Command::Change(_) => true,
     }
 }
 
 pub fn is_legal(command: Command, standing: Standing) -> bool
     ensures { result ≡ legal_command command standing }
 {
-    let chain = standing.chain;
-    if standing.halted {
-        return may_follow(command, chain);
-    }
-    if command::needs_halted(command) {
-        return false;
-    }
-    may_follow(command, chain)
+    (standing.halted || !command::needs_halted(command)) && may_follow(command, standing.chain)
 }

@@ -1,11 +1,11 @@
 -- Laws of the bytes lent: those that there are, put one by one, and where they have room.
-use Rattle.std.specs.Prelude.{ℕ, zero, suc, ◌+◌, ◌-◌, ◌≤◌, ◌<◌, min, ◌≡◌, true, false, List, leb, length, set, take, drop}
-use Rattle.std.proofs.Common.{sym, ◌∙◌, add-one, arith, leb-true, leb-false, le-leb, drop_of_length-le, take_all}
+use Rattle.std.specs.Prelude.{ℕ, zero, suc, ◌+◌, ◌-◌, ◌≤◌, ◌<◌, min, ◌≡◌, refl, true, false, List, [], ◌∷◌, ◌++◌, leb, length, set, take, drop, replicate}
+use Rattle.std.proofs.Common.{ap, sym, ◌∙◌, add-one, arith, leb-true, leb-false, le-leb, drop_of_length-le, take_all}
 use Rattle.std.proofs.lemmas.Bool.{lt-leb}
 use Rattle.std.proofs.lemmas.List.Edits.{sets}
 use Rattle.laws.specs.TestLaws.{by_test}
 use Rattle.numbers.specs.Numbers.{byte_at}
-use Rattle.lent.specs.Lent.{listed, fits}
+use Rattle.lent.specs.Lent.{listed, zeros, fits}
 
 -- the bytes lent, of those that there are, and the rest
 pub lent_part : (lent n : ℕ) (m : List ℕ) → n ≡ min lent (length m) → (take n m ≡ take lent m) × (drop n m ≡ drop lent m)
@@ -39,3 +39,20 @@ fits_by address count lent h =
     (leb count (lent - address))
     (λ e. e ∙ sym (le-leb (address + count) lent (omega (arith, h, leb-true count (lent - address) e))))
     (λ e. e ∙ sym (lt-leb (address + count) lent (omega (arith, h, leb-false count (lent - address) e))))
+
+sets_none : (k : ℕ) (vs : List ℕ) → sets [] k vs ≡ []
+sets_none k [] = refl
+sets_none k (v ∷ vs) = sets_none (suc k) vs
+
+sets_behind : (x : ℕ) (m : List ℕ) (k : ℕ) (vs : List ℕ) → sets (x ∷ m) (suc k) vs ≡ x ∷ sets m k vs
+sets_behind x m k [] = refl
+sets_behind x m k (v ∷ vs) = sets_behind x (set m k v) (suc k) vs
+
+-- so many places at the front filled with zeros, of those that there are
+pub cleared : (k n : ℕ) (m : List ℕ) → k ≡ min n (length m) → replicate k 0 ++ drop k m ≡ sets m 0 (zeros n)
+cleared zero zero m h = refl
+cleared zero (suc n) [] h = sym (sets_none 1 (zeros n))
+cleared zero (suc n) (x ∷ m) h = absurd (omega arith)
+cleared (suc k) zero m h = absurd (omega arith)
+cleared (suc k) (suc n) [] h = absurd (omega arith)
+cleared (suc k) (suc n) (x ∷ m) h = ap (λ (l : List ℕ). 0 ∷ l) (cleared k n m (omega arith)) ∙ sym (sets_behind 0 m 0 (zeros n))

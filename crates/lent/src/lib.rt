@@ -10,38 +10,22 @@ ghost use Rattle.lent.specs.Lent.{zeros, bytes_from, fits, bytes_put};
 pub fn lent_of(lent: usize, most: usize) -> usize
     ensures { result ≡ min lent most }
 {
-    if lent <= most {
-        return lent;
-    }
-    most
-}
-
-fn clear_at(memory: &mut [u8], i: usize)
-    ensures { memory.new ≡ set memory.old i 0 }
-{
-    if i < memory.len() {
-        memory[i] = 0;
-    }
+    lent.min(most)
 }
 
 // So many zero bytes at the front.
 pub fn clear(memory: &mut [u8], count: usize)
     ensures { memory.new ≡ sets memory.old 0 (zeros count) }
 {
-    let mut i: usize = 0;
-    while i < count {
-        clear_at(memory, i);
-        i += 1;
-    }
+    let end = count.min(memory.len());
+    memory[..end].fill(0);
 }
 
 fn copy_bytes(line: &[u8], start: usize, count: usize, memory: &mut [u8], to: usize)
     ensures { memory.new ≡ sets memory.old to (bytes_from line.now start count) }
 {
-    let mut i: usize = 0;
-    while i < count {
+    for i in 0..count {
         put_one(line, start, memory, to, i);
-        i += 1;
     }
 }
 
@@ -49,10 +33,7 @@ fn copy_bytes(line: &[u8], start: usize, count: usize, memory: &mut [u8], to: us
 fn byte_after(line: &[u8], start: usize, i: usize) -> u32
     ensures { result ≡ byte_at line.now (start + 2 * i) }
 {
-    if line.len() <= start {
-        return 0;
-    }
-    if (line.len() - start) / 2 < i {
+    if line.len() <= start || (line.len() - start) / 2 < i {
         return 0;
     }
     numbers::byte_at(line, start + 2 * i)
@@ -61,10 +42,9 @@ fn byte_after(line: &[u8], start: usize, i: usize) -> u32
 fn put_one(line: &[u8], start: usize, memory: &mut [u8], to: usize, i: usize)
     ensures { memory.new ≡ set memory.old (to + i) (byte_at line.now (start + 2 * i)) }
 {
-    if to <= memory.len() {
-        if i < memory.len() - to {
-            memory[to + i] = (byte_after(line, start, i) % 256) as u8;
-        }
+    let place = to.saturating_add(i);
+    if place < memory.len() {
+        memory[place] = (byte_after(line, start, i) % 256) as u8;
     }
 }
 
@@ -73,10 +53,7 @@ pub fn is_lent(address: u32, count: usize, lent: usize) -> bool
     ensures { result ≡ fits address count lent }
 {
     let from = address as usize;
-    if from <= lent {
-        return count <= lent - from;
-    }
-    false
+    from <= lent && count <= lent - from
 }
 
 // The bytes of a line's digits at an address, all of them where they are lent, and none where they are not; whether they are.
@@ -91,9 +68,9 @@ pub fn put_bytes(
     ensures { (result ≡ fits address count lent)
         × (memory.new ≡ bytes_put line.now start count address lent memory.old) }
 {
-    if is_lent(address, count, lent) {
+    let fits = is_lent(address, count, lent);
+    if fits {
         copy_bytes(line, start, count, memory, address as usize);
-        return true;
     }
-    false
+    fits
 }

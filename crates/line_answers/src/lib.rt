@@ -9,6 +9,7 @@ use refusal_text::put_unclear;
 use trigger::Event;
 
 // The answer to a line of the board's, put at the front of the text.
+#[tactic(auto, unfolding(answers::specs::Bench::leaves, crate::specs::LineSaid::said))]
 pub fn answer_line(
     line: &[u8],
     asked: BoardLine,
@@ -20,10 +21,7 @@ pub fn answer_line(
         result memory.new text.new }
 {
     match asked {
-        BoardLine::Nothing => Answered {
-            bench: bench,
-            end: 0,
-        },
+        BoardLine::Nothing => Answered { bench, end: 0 },
         BoardLine::Make(w) => answers::make(w, bench, text),
         BoardLine::Memory(n) => answers::lend(n, bench, memory, text),
         BoardLine::Bytes(address, start, count) => {
@@ -32,9 +30,9 @@ pub fn answer_line(
         BoardLine::Packet(word) => answers::packet_line(word, bench, memory, text),
         BoardLine::Event(pc, mark) => answers::watch(
             Event {
-                pc: pc,
+                pc,
                 bus: None,
-                mark: mark,
+                mark,
             },
             bench,
             text,
@@ -50,7 +48,7 @@ pub fn answer_line(
         BoardLine::Peek(address, count) => answers::show_bytes(address, count, bench, memory, text),
         BoardLine::State => answers::tell_state(bench, text),
         BoardLine::Unclear => Answered {
-            bench: bench,
+            bench,
             end: put_unclear(text),
         },
     }

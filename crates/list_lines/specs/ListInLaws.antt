@@ -1,5 +1,5 @@
 -- Laws of the list in an input: by its head, and by its lines.
-use Rattle.std.specs.Prelude.{◌≡◌, refl, ℕ, zero, suc, ◌+◌, ◌≤◌, ◌<◌, Bool, true, false, List, [], ltb, length, drop, None, Option, Some}
+use Rattle.std.specs.Prelude.{◌≡◌, refl, ℕ, zero, suc, ◌+◌, ◌≤◌, ◌<◌, Bool, true, false, cond, Option, None, Some, List, [], ltb, length, drop}
 use Rattle.std.proofs.Common.{ap, sym, ◌∙◌, arith, length-drop}
 use Rattle.std.proofs.lemmas.Bool.{false≢true}
 use Rattle.std.proofs.lemmas.List.Edits.{sets}
@@ -8,7 +8,7 @@ use Rattle.laws.specs.TestLaws.{by_test}
 use Rattle.laws.specs.Ascii.{ascii}
 use Rattle.list_lines.specs.declared.Lines.{Lines}
 use Rattle.list_lines.specs.declared.ListRead.{ListRead}
-use Rattle.list_lines.specs.ListLines.{named, line_word, Listed, lines_with, lines_in, ListIn, no_list, list_behind, list_in, unlisted, LinesMeet, ListMeets}
+use Rattle.list_lines.specs.ListLines.{named, line_word, Listed, lines_with, lines_in, ListIn, no_list, list_behind, list_in, handed, LinesMeet, ListMeets}
 use Rattle.list_lines.specs.ListLinesLaws.{named_took, lines_used}
 
 -- a head that is none, in its first part or its second, and one with more lines than there is room for
@@ -32,25 +32,18 @@ module _ (room : ℕ) (bytes : List ℕ) where
       some_lines h = rw (e, f, le-ltb room changed h)
 
 -- where there is none, nothing is handed over
-pub none_met : (words before : List ℕ) {r : ListRead} {after : List ℕ} → r ≡ unlisted → after ≡ sets before 0 words → ListMeets (no_list words) before r after
-none_met words before e f =
-    record {
-      clear = ap (λ (l : ListRead). l.clear) e;
-      cycles = ap (λ (l : ListRead). l.cycles) e;
-      changed = ap (λ (l : ListRead). l.changed) e;
-      from = ap (λ (l : ListRead). l.from) e;
-      words = f;
-    }
+pub none_met : (words before : List ℕ) {after : List ℕ} → after ≡ sets before 0 words → ListMeets (no_list words) before None after
+none_met words before f = record { answer = refl; words = f }
 
 -- the lines behind a head: all of them, or too few
 module _ {bytes before after : List ℕ} {r : Lines} (cycles changed used : ℕ) (m : LinesMeet bytes changed before r after) where
   pub all_lines : r.all ≡ true
       → ListMeets (list_behind cycles changed used (lines_in changed bytes)) before
-      (record { clear = true; cycles = cycles; changed = changed; from = used + r.used }) after
-  all_lines e = rw (sym m.all ∙ e) (record { clear = refl; cycles = refl; changed = refl; from = rw m.used; words = m.words })
+      (Some (record { cycles = cycles; changed = changed; from = used + r.used })) after
+  all_lines e = rw (sym m.all ∙ e) (record { answer = rw m.used; words = m.words })
 
-  pub too_few : {l : ListRead} → r.all ≡ false → l ≡ unlisted → ListMeets (list_behind cycles changed used (lines_in changed bytes)) before l after
-  too_few e f = rw (sym m.all ∙ e) (none_met (lines_in changed bytes).words before f m.words)
+  pub too_few : r.all ≡ false → ListMeets (list_behind cycles changed used (lines_in changed bytes)) before None after
+  too_few e = rw (sym m.all ∙ e) (none_met (lines_in changed bytes).words before m.words)
 
 -- as many words as lines, where there are all
 pub lines_count : (k : ℕ) (bytes : List ℕ) → (lines_in k bytes).all ≡ true → length (lines_in k bytes).words ≡ k
@@ -110,3 +103,32 @@ clear_list room bytes c = by_cycles (named (ascii "mended cycles=") 65536 32 byt
     by_cycles : (f : Option (ℕ × ℕ)) → named (ascii "mended cycles=") 65536 32 bytes ≡ f → ClearList (list_in room bytes) room (length bytes)
     by_cycles (Some (cycles, used)) e = by_changed e (named (ascii "changed=") 65536 10 (drop used bytes)) refl
     by_cycles None e = none (no_cycles room bytes e)
+
+-- a list that is handed over is clear, and is what it says; where none is, it is not
+pub record Handed (told : ListIn) (l : ListRead) : Type 0 where
+  pub clear : told.clear ≡ true
+  pub cycles : l.cycles ≡ told.cycles
+  pub changed : l.changed ≡ told.changed
+  pub from : l.from ≡ told.from
+
+pub some_handed : (told : ListIn) (l : ListRead) → Some l ≡ handed told → Handed told l
+some_handed told l e = by_clear told.clear refl e
+  where
+    by_clear : (t : Bool) → told.clear ≡ t → Some l ≡ cond t (Some (record { cycles = told.cycles; changed = told.changed; from = told.from })) None
+        → Handed told l
+    by_clear true c f =
+        let same : l ≡ record { cycles = told.cycles; changed = told.changed; from = told.from } = cc in
+        record {
+          clear = c;
+          cycles = ap (λ (r : ListRead). r.cycles) same;
+          changed = ap (λ (r : ListRead). r.changed) same;
+          from = ap (λ (r : ListRead). r.from) same;
+        }
+    by_clear false c f = cc
+
+pub none_handed : (told : ListIn) → None ≡ handed told → told.clear ≡ false
+none_handed told e = by_clear told.clear _ refl e
+  where
+    by_clear : (t : Bool) (l : ListRead) → told.clear ≡ t → None ≡ cond t (Some l) None → told.clear ≡ false
+    by_clear true l c f = cc
+    by_clear false l c f = c

@@ -1,5 +1,5 @@
 -- The list of `mend` read back (docs/mend.md, `unmend`): its head, its lines, and where the trace begins behind them.
-use Rattle.std.specs.Prelude.{◌≡◌, ℕ, zero, suc, ◌+◌, ◌-◌, ◌*◌, Bool, true, false, cond, List, [], ◌∷◌, eqb, ltb, length, take, drop, None, Option, Some}
+use Rattle.std.specs.Prelude.{◌≡◌, ℕ, zero, suc, ◌+◌, ◌-◌, ◌*◌, Bool, true, false, cond, Option, None, Some, List, [], ◌∷◌, eqb, ltb, length, take, drop}
 use Rattle.std.proofs.lemmas.List.Edits.{sets}
 use Rattle.laws.specs.Ascii.{ascii}
 use Rattle.same.specs.SameList.{same}
@@ -99,14 +99,11 @@ pub record LinesMeet (bytes : List ℕ) (k : ℕ) (before : List ℕ) (r : Lines
   pub all : r.all ≡ (lines_in k bytes).all
   pub words : after ≡ sets before 0 (lines_in k bytes).words
 
--- what is handed over where there is none
-abbrev pub unlisted : ListRead
-unlisted = record { clear = false; cycles = 0; changed = 0; from = 0 }
+-- what is handed over of a list; none, where it is not clear
+abbrev pub handed : ListIn → Option ListRead
+handed told = cond told.clear (Some (record { cycles = told.cycles; changed = told.changed; from = told.from })) None
 
 -- a list as it is handed over, with its words put into a buffer
-pub record ListMeets (told : ListIn) (before : List ℕ) (r : ListRead) (after : List ℕ) : Type 0 where
-  pub clear : r.clear ≡ told.clear
-  pub cycles : r.cycles ≡ told.cycles
-  pub changed : r.changed ≡ told.changed
-  pub from : r.from ≡ told.from
+pub record ListMeets (told : ListIn) (before : List ℕ) (r : Option ListRead) (after : List ℕ) : Type 0 where
+  pub answer : r ≡ handed told
   pub words : after ≡ sets before 0 told.words

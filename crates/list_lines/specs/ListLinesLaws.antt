@@ -1,5 +1,6 @@
 -- Laws of reading a list: byte by byte of a number, and line by line.
-use Rattle.std.specs.Prelude.{◌≡◌, refl, ℕ, zero, suc, ◌+◌, ◌-◌, ◌*◌, ◌≤◌, ◌<◌, Bool, true, false, cond, List, [], ◌∷◌, eqb, ltb, length, get_or, None, Option, Some}
+use Rattle.std.specs.Prelude.{◌≡◌, refl, ℕ, zero, suc, ◌+◌, ◌-◌, ◌*◌, ◌≤◌, ◌<◌, Bool, true, false, cond, None, Some, List, [], ◌∷◌, eqb, ltb, length, get_or}
+use Rattle.std.specs.Prelude.{Option}
 use Rattle.std.specs.Prelude.{take, drop, set}
 use Rattle.std.proofs.Common.{ap, sym, ◌∙◌, add-zero, zero-add, add_assoc, add-one, length-take, length-drop, drop_of_length-le, eq-eqb, ne_eqb, ltb-false}
 use Rattle.std.proofs.Math.Nat.{sub-zero}
@@ -48,6 +49,15 @@ pub record Took (most room value used : ℕ) : Type 0 where
   pub least : value ≤ most
   pub within : used ≤ room
 
+-- the two parts of what was read
+abbrev value_read : Option (ℕ × ℕ) → ℕ
+value_read (Some (value, used)) = value
+value_read None = 0
+
+abbrev used_read : Option (ℕ × ℕ) → ℕ
+used_read (Some (value, used)) = used
+used_read None = 0
+
 digits_took : (most end value used : ℕ) (bytes : List ℕ) (v u : ℕ) → value ≤ most → digits most end value used bytes ≡ Some (v, u)
     → Took most (used + length bytes) v u
 unfolding digits
@@ -62,7 +72,8 @@ digits_took most end value used (byte ∷ bytes) v u h e =
         → cond s (Some (value, used + 1)) (cond t None (cond w None (cond x None (digits most end next (used + 1) bytes)))) ≡ Some (v, u)
         → (next ≤ most → digits most end next (used + 1) bytes ≡ Some (v, u) → Took most (used + 1 + length bytes) v u)
         → Took most (used + suc (length bytes)) v u
-    by_tests true t w x f g on = let same-value : value ≡ v = cc in let same-used : used + 1 ≡ u = cc in record { least = omega arith; within = omega arith }
+    by_tests true t w x f g on =
+        let same-value : value ≡ v = ap value_read g in let same-used : used + 1 ≡ u = ap used_read g in record { least = omega arith; within = omega arith }
     by_tests false true w x f g on = let z : ◌≡◌ {A = ℕ} 0 1 = cc in absurd (omega arith)
     by_tests false false true x f g on = let z : ◌≡◌ {A = ℕ} 0 1 = cc in absurd (omega arith)
     by_tests false false false true f g on = let z : ◌≡◌ {A = ℕ} 0 1 = cc in absurd (omega arith)
@@ -83,9 +94,10 @@ pub line_took : (bytes : List ℕ) (w u : ℕ) → line_word bytes ≡ Some (w, 
 unfolding line_word
 line_took bytes w u e = by_first (number 65535 32 bytes) refl e
   where
-    by_second : (cycle used : ℕ) → used ≤ length bytes → (f : Option (ℕ × ℕ)) → number 15 10 (drop used bytes) ≡ f → word_with cycle used f ≡ Some (w, u) → u ≤ length bytes
+    by_second : (cycle used : ℕ) → used ≤ length bytes → (f : Option (ℕ × ℕ)) → number 15 10 (drop used bytes) ≡ f → word_with cycle used f ≡ Some (w, u)
+        → u ≤ length bytes
     by_second cycle used h (Some (pst, more)) p q =
-        let same-used : used + more ≡ u = cc in
+        let same-used : used + more ≡ u = ap used_read q in
         omega (arith, (number_took 15 10 (drop used bytes) pst more p).within, length-drop used bytes)
     by_second cycle used h None p q = let z : ◌≡◌ {A = ℕ} 0 1 = cc in absurd (omega arith)
 
@@ -143,9 +155,10 @@ pub named_took : (name : List ℕ) (most end : ℕ) (bytes : List ℕ) (v u : �
 unfolding named
 named_took name most end bytes v u = by_name (same (take (length name) bytes) name) refl
   where
-    by_number : length name ≤ length bytes → (f : Option (ℕ × ℕ)) → number most end (drop (length name) bytes) ≡ f → behind (length name) f ≡ Some (v, u) → u ≤ length bytes
+    by_number : length name ≤ length bytes → (f : Option (ℕ × ℕ)) → number most end (drop (length name) bytes) ≡ f → behind (length name) f ≡ Some (v, u)
+        → u ≤ length bytes
     by_number h (Some (value, more)) p q =
-        let same-used : length name + more ≡ u = cc in
+        let same-used : length name + more ≡ u = ap used_read q in
         omega (arith, (number_took most end (drop (length name) bytes) value more p).within, length-drop (length name) bytes)
     by_number h None p q = let z : ◌≡◌ {A = ℕ} 0 1 = cc in absurd (omega arith)
 

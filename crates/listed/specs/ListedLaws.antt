@@ -39,7 +39,7 @@ items_out words k h = by_rest (drop (2 * k) words) (omega (arith, length-drop (2
 
 -- what the lister refuses, and what it lists: the items' words at the front of the buffer
 module _ (trace before after : List ℕ) (r : Result ℕ Refused) (m : ListingMeets trace before r after) where
-  pub refused_text : (why : Ground) (cycle : ℕ) → r ≡ Err (record { ground = why; cycle = cycle }) → listed_text trace (length before) ≡ refused_at why cycle
+  pub refused_text : (why : Ground) (cycle : ℕ) → r ≡ Err (record { why = why; cycle = cycle }) → listed_text trace (length before) ≡ refused_at why cycle
   unfolding listed_text
   refused_text why cycle e = ap (told_text trace) (sym m.answer ∙ ap told_listing e)
 

@@ -6,7 +6,6 @@ ghost use Rattle.listing.specs.Listing.{listing, words_after};
 ghost use Rattle.text.specs.Text.{Puts};
 ghost use Rattle.listed.specs.Listed.{items_text, listed_text};
 
-use trace::Refused;
 use refusal_text::put_refusal_at;
 use text::listing::{put_head, put_item};
 use text::put_text;
@@ -15,12 +14,9 @@ fn put_items(words: &[u32], text: &mut [u8], from: usize) -> usize
     ensures { Puts text.old from (items_text words.now) text.new result }
 {
     let mut at = from;
-    let items = words.len() / 2;
-    let mut k: usize = 0;
-    while k < items {
+    for k in 0..words.len() / 2 {
         at = put_text(text, at, b", ");
         at = put_item(text, at, words[2 * k], words[2 * k + 1]);
-        k += 1;
     }
     at
 }
@@ -31,11 +27,10 @@ pub fn put_listing(trace: &[u8], words: &mut [u32], text: &mut [u8]) -> usize
         × (words.new ≡ words_after trace.now words.old (listing trace.now (length words.old))) }
 {
     match listing::list_trace(trace, words) {
-        Err(Refused { ground, cycle }) => put_refusal_at(text, ground, cycle),
+        Err(refused) => put_refusal_at(text, refused.why, refused.cycle),
         Ok(items) => {
             let at = put_head(text, trace.len(), items);
-            let end = 2 * items;
-            put_items(&words[..end], text, at)
+            put_items(&words[..2 * items], text, at)
         }
     }
 }

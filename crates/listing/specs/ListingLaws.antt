@@ -33,7 +33,8 @@ unfolding listing_from listing
 listing_whole trace room = rw (items_whole trace)
 
 -- the promise, from the answer alone
-pub listing_meets : (trace : List ℕ) (i : ℕ) (c : Carried) (before after : List ℕ) (r : Result ℕ Refused) → told_listing r ≡ listing_from trace i c (length before)
+pub listing_meets : (trace : List ℕ) (i : ℕ) (c : Carried) (before after : List ℕ) (r : Result ℕ Refused)
+    → told_listing r ≡ listing_from trace i c (length before)
     → after ≡ words_over (items_to_end trace i c) before (told_listing r) → ListingFromMeets trace i c before r after
 listing_meets trace i c before after r e f = record { answer = e; words = f ∙ ap (words_over (items_to_end trace i c) before) e }
 

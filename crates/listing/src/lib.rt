@@ -8,16 +8,16 @@ ghost use Rattle.trace.specs.Items.{items_to_end, words};
 ghost use Rattle.listing.specs.Listing.{ListingMeets, ListingFromMeets};
 ghost use Rattle.laws.specs.StoredMirror.{Stored};
 
-use trace::Refused;
-use cycle::Carried;
+use cycle::{Carried, Item};
 use grounds::Ground;
+use trace::Refused;
 
 // An item's two words at a place of the buffer; the place after them.
-fn put_item(out: &mut [u32], at: usize, item: cycle::Item) -> usize
+fn put_item(out: &mut [u32], at: usize, item: Item) -> usize
     requires { (item.cycle < 65536) × (at + 2 ≤ length out.old) }
     ensures { Stored (words (item ∷ [])) at out.old result out.new }
 {
-    out[at] = (item.cycle * 16 + item.code as usize) as u32;
+    out[at] = item.cycle as u32 * 16 + u32::from(item.code);
     out[at + 1] = item.value;
     at + 2
 }
@@ -27,15 +27,10 @@ fn put_value(trace: &[u8], out: &mut [u32], at: usize, i: usize, carried: Carrie
     ensures { Stored (words (value_item trace.now i carried)) at out.old result out.new }
 {
     if carried.due == 1 {
-        let value = cycle::read_value(trace, i, carried.marker);
-        let item = cycle::Item {
-            cycle: i,
-            code: carried.marker,
-            value,
-        };
-        return put_item(out, at, item);
+        put_item(out, at, Item::of_value(trace, i, carried.marker))
+    } else {
+        at
     }
-    at
 }
 
 fn put_own(out: &mut [u32], at: usize, i: usize, run: u8, pst: u8) -> usize
@@ -43,14 +38,10 @@ fn put_own(out: &mut [u32], at: usize, i: usize, run: u8, pst: u8) -> usize
     ensures { Stored (words (own_item i run pst)) at out.old result out.new }
 {
     if cycle::gives_own(run, pst) {
-        let item = cycle::Item {
-            cycle: i,
-            code: pst,
-            value: 0,
-        };
-        return put_item(out, at, item);
+        put_item(out, at, Item::of_cycle(i, pst))
+    } else {
+        at
     }
-    at
 }
 
 // The items of one cycle.
@@ -68,28 +59,31 @@ fn put_from(trace: &[u8], out: &mut [u32], from: usize, found: Carried)
     ensures { out.new ≡ sets out.old 0 (words (items_to_end trace.now from found)) }
 {
     let mut carried = found;
-    let mut at = 0usize;
-    let mut i = from;
-    while i < trace.len() {
+    let mut at = 0;
+    for i in from..trace.len() {
         let pst = trace[i] / 16;
         at = put_cycle(trace, out, at, i, carried, pst);
         carried = cycle::after_cycle(carried, pst);
-        i += 1;
     }
 }
 
 // A listing that starts at a cycle, with what that cycle finds under way: the items from there on.
 // Where neither is the trace's, it is still safe, and judged and listed as if they were.
-pub fn list_from(trace: &[u8], from: usize, found: Carried, out: &mut [u32]) -> Result<usize, Refused>
+pub fn list_from(
+    trace: &[u8],
+    from: usize,
+    found: Carried,
+    out: &mut [u32],
+) -> Result<usize, Refused>
     ensures { ListingFromMeets trace.now from found out.old result out.new }
 {
     let judged = trace::judge_from(trace, from, found);
     match judged {
-        Err(Refused { ground, cycle }) => Err(Refused { ground, cycle }),
+        Err(refused) => Err(refused),
         Ok(count) => {
             if out.len() / 2 < count {
                 return Err(Refused {
-                    ground: Ground::BufferTooShort,
+                    why: Ground::BufferTooShort,
                     cycle: 0,
                 });
             }

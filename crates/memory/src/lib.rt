@@ -4,7 +4,7 @@
 ghost use Rattle.std.specs.Prelude.{◌≡◌, false, ◌+◌, ◌≤◌, ◌<◌, length};
 ghost use Rattle.memory.specs.Memory.{bytes, aligned, present, first_missing, word_at, value_at, fetched, put_word, put_at, stored, reach};
 
-#[derive(Clone, Copy)]
+#[derive(Clone, Copy, Debug, PartialEq, Eq)]
 pub enum Size {
     Byte,
     Word,
@@ -25,7 +25,7 @@ pub fn align(size: Size, address: u32) -> u32
     ensures { result ≡ aligned size address }
 {
     match size {
-        Size::Byte => address - address % 1,
+        Size::Byte => address,
         Size::Word => address - address % 2,
         Size::Long => address - address % 4,
     }
@@ -44,18 +44,14 @@ fn first_missing(memory: &[u8], size: Size, address: u32) -> u32
     ensures { result ≡ first_missing memory.now size address }
 {
     let at = align(size, address) as usize;
-    let end = memory.len();
-    if end <= at {
-        return at as u32;
-    }
-    end as u32
+    at.max(memory.len()) as u32
 }
 
 fn word_at(memory: &[u8], at: usize) -> u32
     requires { at + 2 ≤ length memory.now }
     ensures { (result ≡ word_at memory.now at) × (result < 65536) }
 {
-    (memory[at] as u32) * 256 + (memory[at + 1] as u32)
+    u32::from(memory[at]) * 256 + u32::from(memory[at + 1])
 }
 
 fn value_at(memory: &[u8], size: Size, at: usize) -> u32
@@ -63,12 +59,13 @@ fn value_at(memory: &[u8], size: Size, at: usize) -> u32
     ensures { result ≡ value_at memory.now size at }
 {
     match size {
-        Size::Byte => memory[at] as u32,
+        Size::Byte => u32::from(memory[at]),
         Size::Word => word_at(memory, at),
         Size::Long => word_at(memory, at) * 65536 + word_at(memory, at + 2),
     }
 }
 
+#[tactic(auto, unfolding(crate::specs::Memory::fetched))]
 pub fn fetch_at(memory: &[u8], size: Size, address: u32) -> Result<u32, u32>
     ensures { result ≡ fetched memory.now size address }
 {
@@ -92,12 +89,8 @@ fn put_at(memory: &mut [u8], size: Size, at: usize, value: u32)
     ensures { memory.new ≡ put_at memory.old size at value }
 {
     match size {
-        Size::Byte => {
-            memory[at] = (value % 256) as u8;
-        }
-        Size::Word => {
-            put_word(memory, at, value);
-        }
+        Size::Byte => memory[at] = (value % 256) as u8,
+        Size::Word => put_word(memory, at, value),
         Size::Long => {
             put_word(memory, at, value / 65536);
             put_word(memory, at + 2, value);
@@ -106,6 +99,7 @@ fn put_at(memory: &mut [u8], size: Size, at: usize, value: u32)
 }
 
 // Where a byte of the access is not there, nothing is stored.
+#[tactic(auto, unfolding(crate::specs::Memory::stored, crate::specs::Memory::reach))]
 pub fn store_at(memory: &mut [u8], size: Size, address: u32, value: u32) -> Result<(), u32>
     ensures { (result ≡ reach memory.old size address) × (memory.new ≡ stored memory.old size address value) }
 {

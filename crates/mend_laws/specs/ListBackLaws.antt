@@ -1,5 +1,6 @@
 -- What mend prints is what unmend reads: its numbers, its lines and its head are read back, and with the mended trace behind it the list is taken.
-use Rattle.std.specs.Prelude.{◌≡◌, refl, ℕ, zero, suc, ◌+◌, ◌-◌, ◌*◌, ◌/◌, ◌%◌, ◌^◌, ◌≤◌, ◌<◌, Bool, true, false, cond, List, [], ◌∷◌, ◌++◌, ltb, length, drop, Some}
+use Rattle.std.specs.Prelude.{◌≡◌, refl, ℕ, zero, suc, ◌+◌, ◌-◌, ◌*◌, ◌/◌, ◌%◌, ◌^◌, ◌≤◌, ◌<◌, Bool, true, false, cond, List, [], ◌∷◌, ◌++◌, ltb, length, drop}
+use Rattle.std.specs.Prelude.{Some}
 use Rattle.std.proofs.Common.{ap, sym, ◌∙◌, append_assoc, add-zero, div-le_self, div-one, mod-lt, add-one, arith, length-append, take_at, drop_at}
 use Rattle.std.proofs.Common.{drop-drop, lt-ltb, le-ltb, eq-eqb, ne_eqb}
 use Rattle.std.proofs.Math.Nat.{div-add-mod, div-eq_of_lt, pow-zero}
@@ -13,8 +14,7 @@ use Rattle.list_lines.specs.ListInLaws.{some_lines}
 use Rattle.mending.specs.Mending.{mended_pst, mended, changes}
 use Rattle.mending.specs.MendingStoreLaws.{retold_length, changes_at_most}
 use Rattle.mend_text.specs.MendText.{change_line, change_lines, list_text}
-use Rattle.unmend_text.specs.declared.Unmended.TheVariants.{Recorded}
-use Rattle.unmend_text.specs.UnmendText.{unmended, input_after}
+use Rattle.unmend_text.specs.UnmendText.{recorded_at, unmended, input_after}
 use Rattle.unmend_text.specs.UnmendTextLaws.{its}
 use Rattle.mend_laws.specs.ChangeListLaws.{Rising, listed_in_order}
 use Rattle.mend_laws.specs.PutBackLaws.{its_list_taken, put_back_recorded}
@@ -177,7 +177,7 @@ module _ (list trace : List ℕ) (short : length trace ≤ 65536) (room : length
     (read : list_in 65536 (list ++ mended trace)
     ≡ record { clear = true; cycles = length trace; changed = length (changes trace); from = length list; words = changes trace }) where
   -- the list is taken
-  taken : unmended 65536 (list ++ mended trace) ≡ Recorded (length list) (length (changes trace))
+  taken : unmended 65536 (list ++ mended trace) ≡ recorded_at (length list) (length (changes trace))
   taken =
       let mended-length = retold_length (mended_pst trace) trace (length trace) in
       let within : length (list ++ mended trace) ≡ length list + length trace = omega (arith, length-append list (mended trace)) in
@@ -185,7 +185,7 @@ module _ (list trace : List ℕ) (short : length trace ≤ 65536) (room : length
       its 65536 (list ++ mended trace) (omega arith) (rw read) (rw read (omega arith)) (rw (read, behind) (its_list_taken trace short)) ∙ rw read
 
   -- and with its PSTs put back the trace stands behind it as it was recorded
-  recorded : input_after 65536 (list ++ mended trace) (Recorded (length list) (length (changes trace))) ≡ list ++ trace
+  recorded : input_after 65536 (list ++ mended trace) (recorded_at (length list) (length (changes trace))) ≡ list ++ trace
   recorded =
       rw (read, take_at list (mended trace) (length list) refl, drop_at list (mended trace) (length list) refl, put_back_recorded trace)
 
@@ -195,8 +195,8 @@ printed trace = list_text (length trace) (changes trace)
 
 -- THE LAW: what `mend` prints, with the mended trace behind it, is taken, and the trace behind the list is then as it was recorded
 pub unmend_takes_mend : (trace : List ℕ) → length trace ≤ 65536
-    → (unmended 65536 (printed trace ++ mended trace) ≡ Recorded (length (printed trace)) (length (changes trace)))
-    × (input_after 65536 (printed trace ++ mended trace) (Recorded (length (printed trace)) (length (changes trace))) ≡ printed trace ++ trace)
+    → (unmended 65536 (printed trace ++ mended trace) ≡ recorded_at (length (printed trace)) (length (changes trace)))
+    × (input_after 65536 (printed trace ++ mended trace) (recorded_at (length (printed trace)) (length (changes trace))) ≡ printed trace ++ trace)
 unmend_takes_mend trace short =
     let few : length (changes trace) ≤ 65536 = omega (arith, changes_at_most trace (length trace)) in
     let order = listed_in_order trace (length trace) (omega arith) in

@@ -9,7 +9,7 @@ use refusal_text::put_refusal;
 use text::{put_byte, put_decimal, put_text};
 
 // Where the text ends, and how many bytes go to standard output.
-#[derive(Clone, Copy)]
+#[derive(Clone, Copy, Debug, PartialEq, Eq)]
 pub struct Said {
     pub end: usize,
     pub cycles: usize,
@@ -41,10 +41,8 @@ fn put_changes(text: &mut [u8], from: usize, words: &[u32]) -> usize
     ensures { Puts text.old from (change_lines words.now) text.new result }
 {
     let mut at = from;
-    let mut k = 0usize;
-    while k < words.len() {
-        at = put_change(text, at, words[k]);
-        k += 1;
+    for &word in words {
+        at = put_change(text, at, word);
     }
     at
 }
@@ -61,19 +59,18 @@ pub fn tell_mended(text: &mut [u8], trace: &[u8], bytes: &mut [u8], words: &mut 
     ensures { MendSaid trace.now text.old bytes.old words.old result
         text.new bytes.new words.new }
 {
-    let answer = mending::mend_trace(trace, bytes, words);
-    match answer {
+    match mending::mend_trace(trace, bytes, words) {
         Err(ground) => {
             let at = put_refusal(text, ground);
-            let end = put_byte(text, at, b'\n');
-            Said { end, cycles: 0 }
+            Said {
+                end: put_byte(text, at, b'\n'),
+                cycles: 0,
+            }
         }
         Ok(changed) => {
-            let end = put_list(text, trace.len(), &words[..changed]);
-            Said {
-                end,
-                cycles: trace.len(),
-            }
+            let cycles = trace.len();
+            let end = put_list(text, cycles, &words[..changed]);
+            Said { end, cycles }
         }
     }
 }

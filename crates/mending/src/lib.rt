@@ -12,57 +12,33 @@ ghost use Rattle.mending.specs.MendingMirror.{kept_after, wipes, Surveyed};
 use grounds::Ground;
 
 // The PST that is kept of a cycle, and what is due after it.
-#[derive(Clone, Copy)]
+#[derive(Clone, Copy, Debug, PartialEq, Eq)]
 pub struct Kept {
     pub pst: u8,
     pub due: u8,
 }
 
-// What mending will change: how many cycles, and the one whose marker announces more than there is. The trace's
-// length stands for none.
-#[derive(Clone, Copy)]
+// What mending will change: how many cycles, and the one whose marker announces more than there is, if there is one.
+#[derive(Clone, Copy, Debug, PartialEq, Eq)]
 pub struct Survey {
     pub changed: usize,
-    pub cut: usize,
+    pub cut: Option<usize>,
 }
 
-fn one_less(due: u8) -> u8
-    ensures { result ≡ due - 1 }
-{
-    if due == 0 { 0 } else { due - 1 }
-}
-
-// A cycle by the first two rules where so many nibbles are due. One branch for each kind of PST: what is kept of it decides what is due next.
+// A cycle by the first two rules where so many nibbles are due. One arm for each kind of PST: what is kept of it decides what is due next.
 fn judge_cycle(due: u8, pst: u8) -> Kept
     ensures { result ≡ kept_after due pst }
 {
-    if pst < 8 {
-        if cycle::is_reserved(pst) {
-            return Kept {
-                pst: 0,
-                due: one_less(due),
-            };
-        }
-        return Kept {
-            pst,
-            due: one_less(due),
-        };
-    }
-    if pst < 12 {
-        if 2 <= due {
-            return Kept {
-                pst: 0,
-                due: one_less(due),
-            };
-        }
-        return Kept {
+    let less = due.saturating_sub(1);
+    match pst {
+        0..8 if cycle::is_reserved(pst) => Kept { pst: 0, due: less },
+        0..8 => Kept { pst, due: less },
+        8..12 if 2 <= due => Kept { pst: 0, due: less },
+        8..12 => Kept {
             pst,
             due: cycle::count_nibbles(pst),
-        };
-    }
-    Kept {
-        pst,
-        due: one_less(due),
+        },
+        _ => Kept { pst, due: less },
     }
 }
 
@@ -70,29 +46,20 @@ fn judge_cycle(due: u8, pst: u8) -> Kept
 fn count_wiped(old: u8, left: u8) -> usize
     ensures { result ≡ wipes old left }
 {
-    if left == old {
-        return 0;
-    }
-    1
+    usize::from(left != old)
 }
 
 fn latest_of(latest: usize, i: usize, pst: u8) -> usize
     ensures { result ≡ cond (marker pst) i latest }
 {
-    if cycle::is_marker(pst) {
-        return i;
-    }
-    latest
+    if cycle::is_marker(pst) { i } else { latest }
 }
 
 // The third rule, at the cycle that it is for.
 fn leave_pst(kept: u8, i: usize, cut: usize) -> u8
     ensures { result ≡ cond (eqb i cut) 0 kept }
 {
-    if i == cut {
-        return 0;
-    }
-    kept
+    if i == cut { 0 } else { kept }
 }
 
 fn survey_trace(trace: &[u8]) -> Survey
@@ -101,24 +68,19 @@ fn survey_trace(trace: &[u8]) -> Survey
     let mut due = 0u8;
     let mut changed = 0usize;
     let mut latest = 0usize;
-    let mut i = 0usize;
-    while i < trace.len() {
-        let pst = trace[i] / 16;
+    for (i, &byte) in trace.iter().enumerate() {
+        let pst = byte / 16;
         let kept = judge_cycle(due, pst);
         changed += count_wiped(pst, kept.pst);
         latest = latest_of(latest, i, kept.pst);
         due = kept.due;
-        i += 1;
     }
     if due == 0 {
-        return Survey {
-            changed,
-            cut: trace.len(),
-        };
+        return Survey { changed, cut: None };
     }
     Survey {
         changed: changed + 1,
-        cut: latest,
+        cut: Some(latest),
     }
 }
 
@@ -143,16 +105,13 @@ fn put_mended(trace: &[u8], bytes: &mut [u8], list: &mut [u32], cut: usize)
 {
     let mut due = 0u8;
     let mut at = 0usize;
-    let mut i = 0usize;
-    while i < trace.len() {
-        let byte = trace[i];
+    for (i, &byte) in trace.iter().enumerate() {
         let pst = byte / 16;
         let stays = judge_cycle(due, pst);
         let left = leave_pst(stays.pst, i, cut);
         bytes[i] = left * 16 + byte % 16;
         at = put_change(list, at, i, pst, left);
         due = stays.due;
-        i += 1;
     }
 }
 
@@ -170,6 +129,6 @@ pub fn mend_trace(trace: &[u8], bytes: &mut [u8], list: &mut [u32]) -> Result<us
     if list.len() < found.changed {
         return Err(Ground::BufferTooShort);
     }
-    put_mended(trace, bytes, list, found.cut);
+    put_mended(trace, bytes, list, found.cut.unwrap_or(trace.len()));
     Ok(found.changed)
 }

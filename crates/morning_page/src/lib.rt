@@ -1,9 +1,8 @@
 // The page that is read by eye: each check with what came out, and last how many were bad.
 #![tactic(auto)]
 
-ghost use Rattle.std.specs.Prelude.{◌≡◌, ◌-◌};
 ghost use Rattle.text.specs.Text.{Puts};
-ghost use Rattle.morning_page.specs.MorningPage.{check_of, under_text, judged_text, good_letters, bad_letters, verdict_text, JudgedSo};
+ghost use Rattle.morning_page.specs.MorningPage.{check_of, under_text, judged_text, verdict_text, JudgedSo};
 
 use same::is_same;
 use text::{put_byte, put_decimal, put_text};
@@ -39,19 +38,10 @@ fn put_judged(
 }
 
 // Where the page goes on, and how many are bad with this check.
-#[derive(Clone, Copy)]
+#[derive(Clone, Copy, Debug, PartialEq, Eq)]
 pub struct Judged {
     pub end: usize,
     pub bad: u32,
-}
-
-fn one_less(bad: u32) -> u32
-    ensures { result ≡ bad - 1 }
-{
-    if 0 < bad {
-        return bad - 1;
-    }
-    0
 }
 
 // A check's lines; good is what came out as it is due, and nothing else.
@@ -70,44 +60,37 @@ pub fn put_check(
     let at = put_decimal(text, at, number as usize);
     let good = is_same(came, due);
     let end = put_judged(text, at, good, title, due, came);
-    if good {
-        return Judged {
-            end: end,
-            bad: one_less(bad),
-        };
-    }
-    Judged { end: end, bad: bad }
+    let bad = if good { bad.saturating_sub(1) } else { bad };
+    Judged { end, bad }
 }
 
-fn put_good_letters(text: &mut [u8], at: usize) -> usize
-    ensures { Puts text.old at good_letters text.new result }
-{
-    let at = put_text(text, at, b"\n ####   ###    ###   ####\n");
-    let at = put_text(text, at, b"#      #   #  #   #  #   #\n");
-    let at = put_text(text, at, b"#  ##  #   #  #   #  #   #\n");
-    let at = put_text(text, at, b"#   #  #   #  #   #  #   #\n");
-    put_text(text, at, b" ####   ###    ###   ####\n\n")
-}
+const GOOD_LETTERS: &[u8] = b"
+ ####   ###    ###   ####
+#      #   #  #   #  #   #
+#  ##  #   #  #   #  #   #
+#   #  #   #  #   #  #   #
+ ####   ###    ###   ####
 
-fn put_bad_letters(text: &mut [u8], at: usize) -> usize
-    ensures { Puts text.old at bad_letters text.new result }
-{
-    let at = put_text(text, at, b"\n####    ###   ####\n");
-    let at = put_text(text, at, b"#   #  #   #  #   #\n");
-    let at = put_text(text, at, b"####   #####  #   #\n");
-    let at = put_text(text, at, b"#   #  #   #  #   #\n");
-    put_text(text, at, b"####   #   #  ####\n\n")
-}
+";
+
+const BAD_LETTERS: &[u8] = b"
+####    ###   ####
+#   #  #   #  #   #
+####   #####  #   #
+#   #  #   #  #   #
+####   #   #  ####
+
+";
 
 // Big letters, and a last line, where so many of nine are bad. A check that was never judged is bad.
 pub fn put_verdict(text: &mut [u8], at: usize, bad: u32) -> usize
     ensures { Puts text.old at (verdict_text bad) text.new result }
 {
     if bad == 0 {
-        let at = put_good_letters(text, at);
+        let at = put_text(text, at, GOOD_LETTERS);
         return put_text(text, at, b"ALL 9 GOOD\n");
     }
-    let at = put_bad_letters(text, at);
+    let at = put_text(text, at, BAD_LETTERS);
     let at = put_decimal(text, at, bad as usize);
     put_text(text, at, b" BAD OF 9: HAND OUT NO POD\n")
 }

@@ -1,5 +1,6 @@
 -- Laws of numbers: reading digit by digit, behind `0x` or without it.
-use Rattle.std.specs.Prelude.{ℕ, ◌+◌, ◌*◌, ◌%◌, ◌<◌, ◌≤◌, ◌≡◌, refl, Bool, true, false, cond, ◌&&◌, List, [], ◌∷◌, leb, length, get_or, take, drop, None, Option, Some}
+use Rattle.std.specs.Prelude.{ℕ, ◌+◌, ◌*◌, ◌%◌, ◌<◌, ◌≤◌, ◌≡◌, refl, Bool, true, false, cond, ◌&&◌, List, [], ◌∷◌, leb, length, get_or, take, drop, None}
+use Rattle.std.specs.Prelude.{Option, Some}
 use Rattle.std.proofs.Common.{arith, ap, sym, ◌∙◌, length-take, length-drop, drop_of_length-le, le-leb}
 use Rattle.std.proofs.Math.Bool.{and-false}
 use Rattle.std.proofs.Math.ListN.{get_or-eq_default}
@@ -18,6 +19,8 @@ below low high byte l = rw (lt-leb low byte l)
 
 pub above : (low high byte : ℕ) → high < byte → leb low byte && leb byte high ≡ false
 above low high byte h = rw (lt-leb byte high h, and-false)
+
+pub ruleset by_range = (within, below, above)
 
 -- digits checked one by one
 pub digits_go_on : (word : List ℕ) (i : ℕ) → i < length word → digit (get_or word i 0) ≤ 15 → all_digits (drop i word) ≡ all_digits (drop (i + 1) word)

@@ -1,5 +1,6 @@
 -- The desk's language: numbers, and the numbers of a line.
-use Rattle.std.specs.Prelude.{ℕ, ◌+◌, ◌-◌, ◌*◌, ◌%◌, Bool, true, cond, ◌&&◌, List, [], ◌∷◌, leb, length, get_or, take, drop, None, Option, Some}
+use Rattle.std.specs.Prelude.{ℕ, ◌+◌, ◌-◌, ◌*◌, ◌%◌, Bool, cond, ◌&&◌, List, [], ◌∷◌, leb, length, get_or, take, drop, None, Option, Some}
+use Rattle.std.specs.List.{list_all}
 use Rattle.words.specs.LineWords.{ascii, same}
 use Rattle.numbers.specs.declared.Numbers.{Numbers}
 use Rattle.numbers.specs.declared.Numbers.TheVariants.{Zero, One, Two, Three, Four, NotNumbers}
@@ -15,8 +16,7 @@ abbrev pub is_digit : ℕ → Bool
 is_digit byte = leb (digit byte) 15
 
 abbrev pub all_digits : List ℕ → Bool
-all_digits [] = true
-all_digits (byte ∷ bytes) = is_digit byte && all_digits bytes
+all_digits = list_all is_digit
 
 -- the number that digits make after those that made the number before them
 abbrev pub value_from : ℕ → List ℕ → ℕ

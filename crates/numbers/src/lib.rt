@@ -5,8 +5,10 @@ ghost use Rattle.std.specs.Prelude.{◌≡◌, ◌≤◌};
 ghost use Rattle.words.specs.LineWords.{words_from};
 ghost use Rattle.numbers.specs.Numbers.{digit, all_digits, prefix_length, numeral, more, numbers, byte_at};
 
-// Words as numbers, up to four.
-#[derive(Clone, Copy)]
+use words::Words;
+
+// Words as numbers, up to four: as variants and no list, so that a reader's `match` says which count each form has, and no place is empty.
+#[derive(Clone, Copy, Debug, PartialEq, Eq)]
 pub enum Numbers {
     Zero,
     One(u32),
@@ -16,10 +18,11 @@ pub enum Numbers {
     NotNumbers,
 }
 
+#[tactic(auto, using(crate::specs::NumberLaws::by_range), unfolding(crate::specs::Numbers::digit))]
 fn digit_of(byte: u8) -> u32
     ensures { (result ≡ digit byte) × (result ≤ 16) }
 {
-    let b = byte as u32;
+    let b = u32::from(byte);
     match b {
         48..=57 => b - 48,
         65..=70 => b - 55,
@@ -31,14 +34,7 @@ fn digit_of(byte: u8) -> u32
 pub fn are_digits(word: &[u8]) -> bool
     ensures { result ≡ all_digits word.now }
 {
-    let mut i = 0;
-    while i < word.len() {
-        if 15 < digit_of(word[i]) {
-            return false;
-        }
-        i += 1;
-    }
-    true
+    word.iter().all(|byte| digit_of(*byte) <= 15)
 }
 
 pub fn byte_at(line: &[u8], at: usize) -> u32
@@ -56,6 +52,7 @@ pub fn byte_at(line: &[u8], at: usize) -> u32
 }
 
 // The bytes of `0x` before a number.
+#[tactic(auto, using(crate::specs::NumberLaws::no_prefix), unfolding(crate::specs::Numbers::prefix_length))]
 fn prefix_length(word: &[u8]) -> usize
     ensures { result ≡ prefix_length word.now }
 {
@@ -63,11 +60,13 @@ fn prefix_length(word: &[u8]) -> usize
         return 0;
     }
     if words::is_same(&word[..2], b"0x") {
-        return 2;
+        2
+    } else {
+        0
     }
-    0
 }
 
+#[tactic(auto, using(crate::specs::NumberLaws::number_bad, crate::specs::NumberLaws::number_wide))]
 pub fn read_number(word: &[u8]) -> Option<u32>
     ensures { result ≡ numeral word.now }
 {
@@ -76,17 +75,13 @@ pub fn read_number(word: &[u8]) -> Option<u32>
         return None;
     }
     let mut value: u32 = 0;
-    let mut i = start;
-    while i < word.len() {
-        let digit = digit_of(word[i]);
-        if 15 < digit {
-            return None;
-        }
-        if 0x0FFFFFFF < value {
+    let digits = &word[start..];
+    for byte in digits {
+        let digit = digit_of(*byte);
+        if 15 < digit || 0x0FFFFFFF < value {
             return None;
         }
         value = value * 16 + digit;
-        i += 1;
     }
     Some(value)
 }
@@ -102,8 +97,7 @@ pub fn add_number(before: Numbers, numeral: Option<u32>) -> Numbers
         Numbers::One(a) => Numbers::Two(a, n),
         Numbers::Two(a, b) => Numbers::Three(a, b, n),
         Numbers::Three(a, b, c) => Numbers::Four(a, b, c, n),
-        Numbers::Four(_, _, _, _) => Numbers::NotNumbers,
-        Numbers::NotNumbers => Numbers::NotNumbers,
+        Numbers::Four(..) | Numbers::NotNumbers => Numbers::NotNumbers,
     }
 }
 
@@ -111,15 +105,9 @@ pub fn add_number(before: Numbers, numeral: Option<u32>) -> Numbers
 pub fn read_numbers(line: &[u8], from: usize) -> Numbers
     ensures { result ≡ numbers (words_from line.now from) }
 {
-    let mut before = Numbers::Zero;
-    let mut at = from;
-    loop {
-        let start = words::word_start(line, at);
-        if line.len() <= start {
-            return before;
-        }
-        let stop = words::word_end(line, start);
-        before = add_number(before, read_number(&line[start..stop]));
-        at = stop;
+    let mut numbers = Numbers::Zero;
+    for word in (Words { line, at: from }) {
+        numbers = add_number(numbers, read_number(word));
     }
+    numbers
 }

@@ -32,7 +32,7 @@ module _ (trace given index : List ℕ) (page : Page) (met : PageMeets trace giv
 
   -- "instruction starts (codes 1, 4, 5, 7)"
   pub page_starts_are_four : page.starts ≡ get_or page.counts 1 0 + get_or page.counts 4 0 + get_or page.counts 5 0 + get_or page.counts 7 0
-  page_starts_are_four = rw page_of_lem (sym (starts_tallied {xs = items trace} (record { count = refl; first = refl; last = refl })))
+  page_starts_are_four = rw page_of_lem (sym (starts_tallied (items trace) refl))
 
   -- "the first and last cycle of each that occurs"
   pub page_first_and_last : (code : ℕ) → code < 16 → 0 < get_or page.counts code 0

@@ -1,5 +1,6 @@
 -- Laws of room: the buffers that the program `page` has are never too short. Twenty digits hold every number of 64 bits.
-use Rattle.std.specs.Prelude.{ℕ, zero, suc, ◌+◌, ◌*◌, ◌/◌, ◌≤◌, Bool, true, false, cond, ◌≡◌, refl, List, [], ◌∷◌, ◌++◌, eqb, ltb, length, take, get_or, None, Option, Some}
+use Rattle.std.specs.Prelude.{ℕ, zero, suc, ◌+◌, ◌*◌, ◌/◌, ◌≤◌, Bool, true, false, cond, ◌≡◌, refl, List, [], ◌∷◌, ◌++◌, eqb, ltb, length, take, get_or, None}
+use Rattle.std.specs.Prelude.{Option, Some, Float}
 use Prim.Native.String.{String}
 use Rattle.std.proofs.Common.{arith, le_refl, le_of_eq, length-append, length-take, le-ltb, ltb-false}
 use Rattle.cycle.specs.declared.Carried.{Carried}

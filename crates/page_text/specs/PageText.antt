@@ -1,5 +1,5 @@
 -- The page as text (the desk's language, `page`): its head, its rate, a line for each code that occurs and one for each entry of the index; or a refusal.
-use Rattle.std.specs.Prelude.{ℕ, zero, suc, ◌*◌, ◌/◌, cond, List, [], ◌∷◌, ◌++◌, eqb, take, get_or, None, Option, Some, Err, Ok, Result}
+use Rattle.std.specs.Prelude.{ℕ, zero, suc, ◌*◌, ◌/◌, cond, List, [], ◌∷◌, ◌++◌, eqb, take, get_or, None, Option, Some, Err, Ok, Result, Float}
 use Rattle.trace.specs.declared.Refused.{Refused}
 use Prim.Native.String.{String}
 use Rattle.cycle.specs.declared.Carried.{Carried}
@@ -80,7 +80,7 @@ page_lines page items index =
 -- the lines, "or prints `refused N at C`"
 abbrev pub lines_by : Page → List ℕ → Result ℕ Refused → List ℕ
 lines_by page index (Ok items) = page_lines page items index
-lines_by page index (Err r) = line (refused_at r.ground r.cycle)
+lines_by page index (Err r) = line (refused_at r.why r.cycle)
 
 -- what is printed of a page and its index
 abbrev pub page_text : Page → List ℕ → List ℕ

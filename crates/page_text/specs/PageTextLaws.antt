@@ -99,5 +99,5 @@ page_printed {trace} {before} {after} {r} met = by_judged r.judged refl
         let page : r ≡ page_of trace items = met.page ∙ ap (page_by trace) e in
         rw (met.words, verdict, page, take_at W (drop (length W) before) n (length_index trace), take_all n W (omega (arith, length_index trace)))
     by_judged (Err r) e =
-        let verdict : page_verdict trace (length before) ≡ refusal (number r.ground) r.cycle = sym met.answer ∙ ap told_listing e in
+        let verdict : page_verdict trace (length before) ≡ refusal (number r.why) r.cycle = sym met.answer ∙ ap told_listing e in
         rw (e, verdict)

@@ -8,7 +8,6 @@ ghost use Rattle.summary.specs.Page.{page_verdict, index_after};
 ghost use Rattle.text.specs.Text.{Puts};
 ghost use Rattle.page_text.specs.PageText.{page_lines, page_text, printed};
 
-use trace::Refused;
 use refusal_text::put_refusal_at;
 use summary::page;
 use summary::page::Page;
@@ -18,23 +17,18 @@ fn put_lines(text: &mut [u8], page: Page, items: usize, index: &[u32]) -> usize
     ensures { Puts text.old 0 (page_lines page items index.now) text.new result }
 {
     let at = lines::put_head(text, 0, page.cycles as usize, items, page.starts as usize);
-    let rate = page.rate;
-    let at = lines::put_rate(text, at, rate, page.cycles, page.starts);
+    let at = lines::put_rate(text, at, page.rate, page.cycles, page.starts);
     let at = lines::put_codes(text, at, page);
     let entries = (page.cycles as usize + 255) / 256;
-    if entries <= index.len() {
-        return lines::put_index(text, at, &index[..entries]);
-    }
-    lines::put_index(text, at, index)
+    lines::put_index(text, at, &index[..entries.min(index.len())])
 }
 
 fn put_page(text: &mut [u8], page: Page, index: &[u32]) -> usize
     ensures { Puts text.old 0 (page_text page index.now) text.new result }
 {
-    let judged = page.judged;
-    match judged {
-        Err(Refused { ground, cycle }) => {
-            let at = put_refusal_at(text, ground, cycle);
+    match page.judged {
+        Err(refused) => {
+            let at = put_refusal_at(text, refused.why, refused.cycle);
             text::put_byte(text, at, b'\n')
         }
         Ok(items) => put_lines(text, page, items, index),

@@ -83,14 +83,16 @@ fn put_code(text: &mut [u8], at: usize, code: usize, count: u32, first: u32, las
 pub fn put_codes(text: &mut [u8], from: usize, page: Page) -> usize
     ensures { Puts text.old from (code_lines page) text.new result }
 {
-    let counts = page.counts;
-    let firsts = page.firsts;
-    let lasts = page.lasts;
     let mut at = from;
-    let mut code = 0usize;
-    while code < 16 {
-        at = put_code(text, at, code, counts[code], firsts[code], lasts[code]);
-        code += 1;
+    for code in 0..16 {
+        at = put_code(
+            text,
+            at,
+            code,
+            page.counts[code],
+            page.firsts[code],
+            page.lasts[code],
+        );
     }
     at
 }
@@ -132,11 +134,8 @@ pub fn put_index(text: &mut [u8], from: usize, index: &[u32]) -> usize
     ensures { Puts text.old from (index_from 0 index.now) text.new result }
 {
     let mut at = from;
-    let mut k = 0usize;
-    while k < index.len() {
-        let entry = index::read_entry(256 * k, index[k]);
-        at = put_entry(text, at, entry);
-        k += 1;
+    for (k, &word) in index.iter().enumerate() {
+        at = put_entry(text, at, index::read_entry(256 * k, word));
     }
     at
 }

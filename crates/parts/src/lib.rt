@@ -7,18 +7,12 @@ ghost use Rattle.std.specs.Prelude.{◌≡◌, take, drop};
 pub fn front(bytes: &[u8], end: usize) -> &[u8]
     ensures { result.now ≡ take end bytes.now }
 {
-    if end < bytes.len() {
-        return &bytes[..end];
-    }
-    bytes
+    &bytes[..end.min(bytes.len())]
 }
 
 // Those from a place on.
 pub fn rest(bytes: &[u8], at: usize) -> &[u8]
     ensures { result.now ≡ drop at bytes.now }
 {
-    if at < bytes.len() {
-        return &bytes[at..];
-    }
-    &bytes[bytes.len()..]
+    &bytes[at.min(bytes.len())..]
 }

@@ -5,8 +5,8 @@ use Rattle.requests.specs.declared.Request.{Request}
 use Rattle.building.specs.RequestWords.{built_words}
 use Rattle.building.specs.Building.{building_verdict}
 use Rattle.readings.specs.Reading.{reading}
-use Rattle.pod_lines.specs.declared.Taken.{Taken}
-use Rattle.pod_lines.specs.declared.Taken.TheVariants.{Count, TooMany, NotAllNumbers}
+use Rattle.pod_lines.specs.declared.NotTaken.{NotTaken}
+use Rattle.pod_lines.specs.declared.NotTaken.TheVariants.{TooMany, NotAllNumbers}
 use Rattle.pod_lines.specs.Taking.{values, counted, taken}
 use Rattle.pod_lines.specs.PodLines.{Meaning, nothing, builds, reads, unclear, pod_meaning}
 use Rattle.refusal_text.specs.RefusalText.{unclear_text, refused_text}
@@ -22,10 +22,10 @@ abbrev pub built_text : Request → List ℕ
 built_text request = built_by (building_verdict request 5) (built_words request)
 
 -- what the replies bring, where all of them are numbers
-abbrev pub read_text : Request → Taken → List ℕ → List ℕ
-read_text request (Count n) replies = reading_text (reading request replies)
-read_text request TooMany replies = unclear_text
-read_text request NotAllNumbers replies = unclear_text
+abbrev pub read_text : Request → Result ℕ NotTaken → List ℕ → List ℕ
+read_text request (Ok n) replies = reading_text (reading request replies)
+read_text request (Err TooMany) replies = unclear_text
+read_text request (Err NotAllNumbers) replies = unclear_text
 
 -- no line has more than 2,048 replies
 abbrev pub pod_text : Meaning → List ℕ

@@ -15,7 +15,7 @@ use Rattle.pod_laws.specs.ReadingUnique.{told_reading_unique}
 use Rattle.text.specs.Text.{Puts}
 use Rattle.refusal_text.specs.RefusalText.{unclear_text, refused_text}
 use Rattle.request_text.specs.RequestText.{words_text, reading_text}
-use Rattle.pod_lines.specs.declared.Taken.TheVariants.{Count, TooMany, NotAllNumbers}
+use Rattle.pod_lines.specs.declared.NotTaken.TheVariants.{TooMany, NotAllNumbers}
 use Rattle.pod_lines.specs.declared.PodLine.{PodLine}
 use Rattle.pod_lines.specs.declared.PodLine.TheVariants.{Nothing, Build, Read, BufferTooShort, Unclear}
 use Rattle.pod_lines.specs.Taking.{values, all_numerals, taken, buffer_after}
@@ -59,7 +59,8 @@ pub refused_built : {request : Request} {before after : List ℕ} {r : Result �
 refused_built {request} {before} {after} {r} {why} five meets e =
     rw five at (refused_by request why (building_verdict request (length before)) (ap told_built (sym e) ∙ meets.answer))
 
-pub reading_answered : {request : Request} {replies : List ℕ} {r : Result (Option Outcome × ℕ) Ground} → ReadingMeets request replies r → r ≡ reading request replies
+pub reading_answered : {request : Request} {replies : List ℕ} {r : Result (Option Outcome × ℕ) Ground} → ReadingMeets request replies r
+    → r ≡ reading request replies
 reading_answered {request} {replies} {r} meets = told_reading_unique r (reading request replies) meets.answer
 
 -- what is said to what a line was read as, its replies in the buffer
@@ -72,16 +73,16 @@ line_text Unclear after = unclear_text
 
 module _ (before : List ℕ) (full : length before ≡ 2048) where
   replies_said : (request : Request) (replies : List (List ℕ)) (all : Bool)
-      → line_text (read_answer request (taken (cond all (Count (length replies)) NotAllNumbers) 2048))
-      (buffer_after (taken (cond all (Count (length replies)) NotAllNumbers) 2048) replies before)
-      ≡ read_text request (taken (cond all (Count (length replies)) NotAllNumbers) 2048) (values replies)
+      → line_text (read_answer request (taken (cond all (Ok (length replies)) (Err NotAllNumbers)) 2048))
+      (buffer_after (taken (cond all (Ok (length replies)) (Err NotAllNumbers)) 2048) replies before)
+      ≡ read_text request (taken (cond all (Ok (length replies)) (Err NotAllNumbers)) 2048) (values replies)
   replies_said request replies false = refl
   replies_said request replies true = by_room (leb (length replies) 2048)
     where
       by_room : (fits : Bool)
-          → line_text (read_answer request (cond fits (Count (length replies)) TooMany))
-          (buffer_after (cond fits (Count (length replies)) TooMany) replies before)
-          ≡ read_text request (cond fits (Count (length replies)) TooMany) (values replies)
+          → line_text (read_answer request (cond fits (Ok (length replies)) (Err TooMany)))
+          (buffer_after (cond fits (Ok (length replies)) (Err TooMany)) replies before)
+          ≡ read_text request (cond fits (Ok (length replies)) (Err TooMany)) (values replies)
       by_room true =
           let read : take (length replies) (values replies ++ drop (length replies) before) ≡ values replies =
           take_at (values replies) _ (length replies) (values_length replies) in
@@ -109,12 +110,12 @@ count_room request count room (builds other) e = let z : ◌≡◌ {A = ℕ} 0 1
 count_room request count room unclear e = let z : ◌≡◌ {A = ℕ} 0 1 = cc in absurd (omega arith)
 count_room request count room (reads other replies) e = by_all (all_numerals replies) e
   where
-    by_room : (fits : Bool) → leb (length replies) room ≡ fits → Read request count ≡ read_answer other (cond fits (Count (length replies)) TooMany)
+    by_room : (fits : Bool) → leb (length replies) room ≡ fits → Read request count ≡ read_answer other (cond fits (Ok (length replies)) (Err TooMany))
         → count ≤ room
     by_room true h e = let same : count ≡ length replies = cc in omega (arith, leb-true (length replies) room h)
     by_room false h e = let z : ◌≡◌ {A = ℕ} 0 1 = cc in absurd (omega arith)
 
-    by_all : (all : Bool) → Read request count ≡ read_answer other (taken (cond all (Count (length replies)) NotAllNumbers) room) → count ≤ room
+    by_all : (all : Bool) → Read request count ≡ read_answer other (taken (cond all (Ok (length replies)) (Err NotAllNumbers)) room) → count ≤ room
     by_all true e = by_room (leb (length replies) room) refl e
     by_all false e = let z : ◌≡◌ {A = ℕ} 0 1 = cc in absurd (omega arith)
 

@@ -39,7 +39,6 @@ pub fn answer(line: &[u8], text: &mut [u8]) -> usize
         PodLine::Nothing => 0,
         PodLine::Build(request) => build(request, text),
         PodLine::Read(request, count) => read(request, &replies, count, text),
-        PodLine::BufferTooShort => put_unclear(text),
-        PodLine::Unclear => put_unclear(text),
+        PodLine::BufferTooShort | PodLine::Unclear => put_unclear(text),
     }
 }

@@ -1,5 +1,6 @@
 -- Laws of ground 14: each reply that 01 lists is refused so, and "nothing else is".
-use Rattle.std.specs.Prelude.{ℕ, ◌≤◌, ◌≡◌, refl, ◌↔◌, Bool, true, false, cond, List, [], ◌∷◌, ◌++◌, eqb, leb, length, None, Option, Some, Err, Ok}
+use Rattle.std.specs.Prelude.{ℕ, ◌≤◌, ◌≡◌, refl, ◌↔◌, Bool, true, false, cond, List, [], ◌∷◌, ◌++◌, eqb, leb, length, None, Option, Some, Err, Ok, Result}
+use Rattle.readings.specs.declared.Outcome.{Outcome}
 use Rattle.memory.specs.declared.Size.{Size}
 use Rattle.std.proofs.Common.{arith, sym, ap, ◌∙◌, true≢false, append_assoc, le-leb, leb-true, leb-false, ne_eqb}
 use Rattle.std.proofs.lemmas.Bool.{lt-leb, eqb-false}
@@ -177,10 +178,10 @@ refused_bad (Closed outcome) n g e = cc
 refused_bad (Bad why) n g e = cc
 
 -- grounds 13 and 14 are two
-not_thirteen : {A : Type 0} → Err RequestOutOfRange ≡ Err ImpossibleReply → A
+not_thirteen : {A : Type 0} → ◌≡◌ {A = Result (Option Outcome × ℕ) Ground} (Err RequestOutOfRange) (Err ImpossibleReply) → A
 not_thirteen e = let z : ◌≡◌ {A = ℕ} 0 1 = cc in absurd (omega arith)
 
-refused_is_not_yet : {A : Type 0} {g : Ground} {n : ℕ} → Err g ≡ Ok (None, n) → A
+refused_is_not_yet : {A : Type 0} {g : Ground} {n : ℕ} → ◌≡◌ {A = Result (Option Outcome × ℕ) Ground} (Err g) (Ok (None, n)) → A
 refused_is_not_yet e = let z : ◌≡◌ {A = ℕ} 0 1 = cc in absurd (omega arith)
 
 -- "nothing else is"

@@ -1,5 +1,7 @@
 -- Laws of reading: it is "not yet" until, and only until, the closing reply is in, and what comes after that changes nothing.
-use Rattle.std.specs.Prelude.{ℕ, zero, suc, ◌+◌, ◌≤◌, ◌<◌, ◌≡◌, refl, true, false, cond, List, [], ◌∷◌, ◌++◌, length, take, Option, None, Ok}
+use Rattle.std.specs.Prelude.{ℕ, zero, suc, ◌+◌, ◌≤◌, ◌<◌, ◌≡◌, refl, true, false, cond, List, [], ◌∷◌, ◌++◌, length, take, Option, None, Ok, Result, Err, Some}
+use Rattle.grounds.specs.declared.Ground.{Ground}
+use Rattle.readings.specs.declared.Outcome.{Outcome}
 use Rattle.memory.specs.declared.Size.{Size}
 use Rattle.std.proofs.Common.{zero-add, arith, sym, ap, ◌∙◌}
 use Rattle.std.proofs.Math.Seq.{take-nil}
@@ -17,10 +19,16 @@ open_answer (Second upper) n h = refl
 open_answer (Closed outcome) n h = cc
 open_answer (Bad why) n h = cc
 
+-- 1 where no outcome has been read
+abbrev is_open : Result (Option Outcome × ℕ) Ground → ℕ
+is_open (Ok (Some outcome, n)) = 0
+is_open (Ok (None, n)) = 1
+is_open (Err why) = 0
+
 pub not_yet_open : (d : Reader) (n m : ℕ) → answered d n ≡ Ok (None, m) → done d ≡ false
 not_yet_open First n m e = refl
 not_yet_open (Second upper) n m e = refl
-not_yet_open (Closed outcome) n m e = cc
+not_yet_open (Closed outcome) n m e = let z : ◌≡◌ {A = ℕ} 0 1 = ap is_open e in absurd (omega arith)
 not_yet_open (Bad why) n m e = cc
 
 open_uses_all : (k : Option Size) (d : Reader) (rs : List ℕ) → done (after_replies k d rs) ≡ false → used k d rs ≡ length rs
@@ -32,14 +40,20 @@ open_uses_all k d (r ∷ rs) h =
 
 -- .. and then every reply is used
 pub open_is_not_yet : (k : Option Size) (rs : List ℕ) → done (after_replies k First rs) ≡ false → reading_of k rs ≡ Ok (None, length rs)
-open_is_not_yet k rs h = open_answer (after_replies k First rs) (used k First rs) h ∙ ap (λ x. Ok (None, x)) (open_uses_all k First rs h)
+open_is_not_yet k rs h = open_answer (after_replies k First rs) (used k First rs) h ∙ ap (λ (n : ℕ). Ok (None, n)) (open_uses_all k First rs h)
+
+-- the words that a reading used
+abbrev words_read : Result (Option Outcome × ℕ) Ground → ℕ
+words_read (Ok (outcome, n)) = n
+words_read (Err why) = 0
 
 -- "all of them for not yet"
 pub not_yet_uses_all : (k : Option Size) (rs : List ℕ) (n : ℕ) → reading_of k rs ≡ Ok (None, n) → n ≡ length rs
 not_yet_uses_all k rs n e =
     let h = not_yet_open (after_replies k First rs) (used k First rs) n e in
-    let e' : Ok (None, used k First rs) ≡ Ok (None, n) = sym (open_answer (after_replies k First rs) (used k First rs) h) ∙ e in
-    let same : used k First rs ≡ n = cc in
+    let e' : ◌≡◌ {A = Result (Option Outcome × ℕ) Ground} (Ok (None, used k First rs)) (Ok (None, n)) =
+    sym (open_answer (after_replies k First rs) (used k First rs) h) ∙ e in
+    let same : used k First rs ≡ n = ap words_read e' in
     sym same ∙ open_uses_all k First rs h
 
 -- the reader and the words used are the same for two lists of replies

@@ -39,5 +39,6 @@ told_reading_unique (Err g) (Ok (None, n)) e = absurd (number_is_not_zero g (ap 
 told_reading_unique (Err g) (Err h) e = ap Err (same_number_same_ground g h (ap refusal_number e))
 
 -- no second answer fits
-pub reading_unique : {request : Request} {replies : List ℕ} {r s : Result (Option Outcome × ℕ) Ground} → ReadingMeets request replies r → ReadingMeets request replies s → r ≡ s
+pub reading_unique : {request : Request} {replies : List ℕ} {r s : Result (Option Outcome × ℕ) Ground} → ReadingMeets request replies r
+    → ReadingMeets request replies s → r ≡ s
 reading_unique {request} {replies} {r} {s} f g = told_reading_unique r s (f.answer ∙ sym g.answer)

@@ -1,8 +1,8 @@
 -- Laws of `pod`: what each meaning asks of an answer.
-use Rattle.std.specs.Prelude.{ℕ, ◌≡◌, refl, List}
+use Rattle.std.specs.Prelude.{ℕ, ◌≡◌, refl, List, Result}
 use Rattle.std.proofs.Common.{ap, sym, ◌∙◌}
 use Rattle.requests.specs.declared.Request.{Request}
-use Rattle.pod_lines.specs.declared.Taken.{Taken}
+use Rattle.pod_lines.specs.declared.NotTaken.{NotTaken}
 use Rattle.pod_lines.specs.Taking.{TakingMeets}
 use Rattle.pod_lines.specs.declared.PodLine.{PodLine}
 use Rattle.pod_lines.specs.declared.PodLine.TheVariants.{Nothing, Build, Unclear}
@@ -21,6 +21,6 @@ says_unclear before = record { answer = refl; buffer = refl }
 pub says_build : (request : Request) (before : List ℕ) → PodMeets (builds request) before (Build request) before
 says_build request before = record { answer = refl; buffer = refl }
 
-pub says_read : (request : Request) {replies : List (List ℕ)} {before after : List ℕ} {t t' : Taken} → TakingMeets replies before t after → t ≡ t'
+pub says_read : (request : Request) {replies : List (List ℕ)} {before after : List ℕ} {t t' : Result ℕ NotTaken} → TakingMeets replies before t after → t ≡ t'
     → PodMeets (reads request replies) before (read_answer request t') after
 says_read request p e = record { answer = ap (read_answer request) (sym e ∙ p.answer); buffer = p.buffer }

@@ -1,11 +1,10 @@
 -- The desk's language: the lines of `pod`.
-use Rattle.std.specs.Prelude.{ℕ, ◌≡◌, cond, List, [], ◌∷◌, length, None, Some}
-use Rattle.std.proofs.Math.Option.{Option, none, some}
+use Rattle.std.specs.Prelude.{ℕ, ◌≡◌, cond, List, [], ◌∷◌, length, None, Some, Option, Err, Ok, Result}
 use Rattle.requests.specs.declared.Request.{Request}
 use Rattle.words.specs.declared.LineKind.{LineKind}
 use Rattle.words.specs.declared.LineKind.TheVariants.{Silent, Clear, TooLong}
-use Rattle.pod_lines.specs.declared.Taken.{Taken}
-use Rattle.pod_lines.specs.declared.Taken.TheVariants.{Count, TooMany, NotAllNumbers}
+use Rattle.pod_lines.specs.declared.NotTaken.{NotTaken}
+use Rattle.pod_lines.specs.declared.NotTaken.TheVariants.{TooMany, NotAllNumbers}
 use Rattle.words.specs.LineWords.{ascii, kind_of, words, same}
 use Rattle.words.specs.NameTable.{row, found}
 use Rattle.pod_lines.specs.Taking.{counted, taken, buffer_after}
@@ -26,8 +25,8 @@ before_colon [] = []
 before_colon (word ∷ rest) = cond (same word (ascii ":")) [] (word ∷ before_colon rest)
 
 abbrev pub after_colon : List (List ℕ) → Option (List (List ℕ))
-after_colon [] = none
-after_colon (word ∷ rest) = cond (same word (ascii ":")) (some rest) (after_colon rest)
+after_colon [] = None
+after_colon (word ∷ rest) = cond (same word (ascii ":")) (Some rest) (after_colon rest)
 
 -- `build REQUEST`
 abbrev pub build_line : Option Request → Meaning
@@ -36,8 +35,8 @@ build_line None = unclear
 
 -- `read REQUEST : X X ..`; "The words of `read` may be none."
 abbrev pub read_line : Option Request → Option (List (List ℕ)) → Meaning
-read_line (Some request) (some replies) = reads request replies
-read_line (Some request) none = unclear
+read_line (Some request) (Some replies) = reads request replies
+read_line (Some request) None = unclear
 read_line None replies = unclear
 
 unfoldable pub pod_words : List (List ℕ) → Meaning
@@ -56,10 +55,10 @@ unfoldable pub pod_meaning : List ℕ → Meaning
 pod_meaning line = pod_at (kind_of line) line
 
 -- the reply words as numbers of 32 bits, into a buffer that has room for them
-abbrev pub read_answer : Request → Taken → PodLine
-read_answer request (Count n) = Read request n
-read_answer request TooMany = BufferTooShort
-read_answer request NotAllNumbers = Unclear
+abbrev pub read_answer : Request → Result ℕ NotTaken → PodLine
+read_answer request (Ok n) = Read request n
+read_answer request (Err TooMany) = BufferTooShort
+read_answer request (Err NotAllNumbers) = Unclear
 
 abbrev pub answered : Meaning → ℕ → PodLine
 answered nothing room = Nothing

@@ -1,7 +1,6 @@
 -- A law of `pod`: a buffer of 2,048 words has room for the reply words of any line.
-use Rattle.std.specs.Prelude.{ℕ, ◌≤◌, ◌≡◌, refl, Bool, true, false, cond, List, [], ◌∷◌, leb, length, None, Some}
+use Rattle.std.specs.Prelude.{ℕ, ◌≤◌, ◌≡◌, refl, Bool, true, false, cond, List, [], ◌∷◌, leb, length, None, Some, Option}
 use Rattle.std.proofs.Common.{arith, leb-true}
-use Rattle.std.proofs.Math.Option.{Option, none, some}
 use Rattle.requests.specs.declared.Request.{Request}
 use Rattle.words.specs.declared.LineKind.TheVariants.{Silent, Clear, TooLong}
 use Rattle.words.specs.LineWords.{ascii, is_silent, kind_of, words, same}
@@ -10,12 +9,12 @@ use Rattle.request_lines.specs.RequestLines.{request_of}
 use Rattle.pod_lines.specs.PodLines.{reads, unclear, before_colon, after_colon, build_line, read_line, pod_words, pod_at, pod_meaning}
 
 -- there are no more words behind the colon than in all
-after_fewer : (ws replies : List (List ℕ)) → after_colon ws ≡ some replies → length replies ≤ length ws
+after_fewer : (ws replies : List (List ℕ)) → after_colon ws ≡ Some replies → length replies ≤ length ws
 after_fewer [] replies e = let z : ◌≡◌ {A = ℕ} 0 1 = cc in omega arith
 after_fewer (w ∷ rest) replies e = by_test (after_fewer rest replies) (same w (ascii ":")) e
   where
-    by_test : (after_colon rest ≡ some replies → length replies ≤ length rest) → (t : Bool)
-        → cond t (some rest) (after_colon rest) ≡ some replies → length replies ≤ length (w ∷ rest)
+    by_test : (after_colon rest ≡ Some replies → length replies ≤ length rest) → (t : Bool)
+        → cond t (Some rest) (after_colon rest) ≡ Some replies → length replies ≤ length (w ∷ rest)
     by_test ih true e = let same_rest : rest ≡ replies = cc in rw (← same_rest) (omega arith)
     by_test ih false e = omega (arith, ih e)
 
@@ -24,10 +23,11 @@ build_reads : (asked : Option Request) (request : Request) (replies : List (List
 build_reads (Some r) request replies e = cc
 build_reads None request replies e = cc
 
-read_reads : (asked : Option Request) (behind : Option (List (List ℕ))) (request : Request) (replies : List (List ℕ)) → read_line asked behind ≡ reads request replies
-    → behind ≡ some replies
-read_reads (Some r) (some words) request replies e = cc
-read_reads (Some r) none request replies e = cc
+read_reads : (asked : Option Request) (behind : Option (List (List ℕ))) (request : Request) (replies : List (List ℕ))
+    → read_line asked behind ≡ reads request replies
+    → behind ≡ Some replies
+read_reads (Some r) (Some words) request replies e = cc
+read_reads (Some r) None request replies e = cc
 read_reads None behind request replies e = cc
 
 words_fewer : (ws : List (List ℕ)) (request : Request) (replies : List (List ℕ)) → pod_words ws ≡ reads request replies → length replies ≤ length ws

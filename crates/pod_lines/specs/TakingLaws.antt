@@ -1,18 +1,18 @@
 -- Laws of taking numbers: counting and putting them one by one.
-use Rattle.std.specs.Prelude.{ℕ, suc, ◌+◌, ◌≤◌, ◌<◌, ◌≡◌, refl, Bool, true, false, cond, List, [], ◌∷◌, ◌++◌, length, drop, set}
+use Rattle.std.specs.Prelude.{ℕ, suc, ◌+◌, ◌≤◌, ◌<◌, ◌≡◌, refl, Bool, true, false, cond, List, [], ◌∷◌, ◌++◌, length, drop, set, Err, Ok, Result}
 use Rattle.std.proofs.Common.{arith, zero-add, add-suc, suc-add, add-one, ap, ◌∙◌, le-leb}
 use Rattle.std.proofs.lemmas.List.Edits.{sets}
 use Rattle.std.proofs.lemmas.Bool.{lt-leb}
 use Rattle.laws.specs.TestLaws.{both_hold}
 use Rattle.laws.specs.StoreLaws.{sets_front}
-use Rattle.pod_lines.specs.declared.Taken.{Taken}
-use Rattle.pod_lines.specs.declared.Taken.TheVariants.{Count, TooMany, NotAllNumbers}
+use Rattle.pod_lines.specs.declared.NotTaken.{NotTaken}
+use Rattle.pod_lines.specs.declared.NotTaken.TheVariants.{TooMany, NotAllNumbers}
 use Rattle.numbers.specs.Numbers.{value, is_numeral}
 use Rattle.pod_lines.specs.Taking.{all_numerals, values, counted, TakingMeets}
 
 -- counting on from a count
-abbrev pub counted_from : ℕ → List (List ℕ) → Taken
-counted_from n words = cond (all_numerals words) (Count (n + length words)) NotAllNumbers
+abbrev pub counted_from : ℕ → List (List ℕ) → Result ℕ NotTaken
+counted_from n words = cond (all_numerals words) (Ok (n + length words)) (Err NotAllNumbers)
 
 pub count_begins : (words : List (List ℕ)) → counted words ≡ counted_from 0 words
 count_begins words = rw zero-add
@@ -20,14 +20,14 @@ count_begins words = rw zero-add
 pub count_goes_on : (n : ℕ) (word : List ℕ) (words : List (List ℕ)) → is_numeral word ≡ true → counted_from n (word ∷ words) ≡ counted_from (n + 1) words
 count_goes_on n word words e = rw (e, add-suc n (length words), add-one n, suc-add n (length words))
 
-pub count_stops : (n : ℕ) (word : List ℕ) (words : List (List ℕ)) → is_numeral word ≡ false → counted_from n (word ∷ words) ≡ NotAllNumbers
+pub count_stops : (n : ℕ) (word : List ℕ) (words : List (List ℕ)) → is_numeral word ≡ false → counted_from n (word ∷ words) ≡ Err NotAllNumbers
 count_stops n word words e = rw e
 
 -- what a count says of the words
-pub count_tells : (words : List (List ℕ)) (n : ℕ) → counted words ≡ Count n → (all_numerals words ≡ true) × (length words ≡ n)
+pub count_tells : (words : List (List ℕ)) (n : ℕ) → counted words ≡ Ok n → (all_numerals words ≡ true) × (length words ≡ n)
 count_tells words n e = by_test (all_numerals words) e
   where
-    by_test : (t : Bool) → cond t (Count (length words)) NotAllNumbers ≡ Count n → (t ≡ true) × (length words ≡ n)
+    by_test : (t : Bool) → cond t (Ok (length words)) (Err NotAllNumbers) ≡ Ok n → (t ≡ true) × (length words ≡ n)
     by_test true e = (refl, cc)
     by_test false e = (cc, cc)
 
@@ -52,18 +52,21 @@ first_numeral word words e = both_hold (is_numeral word) (all_numerals words) e
 
 -- the promise, for each way that taking goes
 module _ (words : List (List ℕ)) (before : List ℕ) (n : ℕ) where
-  pub takes_all : counted words ≡ Count n → n ≤ length before → (after : List ℕ) → after ≡ sets before 0 (values words)
-      → TakingMeets words before (Count n) after
+  pub takes_all : counted words ≡ Ok n → n ≤ length before → (after : List ℕ) → after ≡ sets before 0 (values words)
+      → TakingMeets words before (Ok n) after
   takes_all e h after p =
       let l : length words ≡ n = (count_tells words n e).1 in
       record { answer = rw (e, le-leb n (length before) h); buffer = p ∙ put_all words before (omega arith) ∙ rw (e, l, le-leb n (length before) h) }
 
-  pub takes_none : counted words ≡ Count n → length before < n → TakingMeets words before TooMany before
+  pub takes_none : counted words ≡ Ok n → length before < n → TakingMeets words before (Err TooMany) before
   takes_none e h = record { answer = rw (e, lt-leb n (length before) h); buffer = rw (e, lt-leb n (length before) h) }
 
 module _ (words : List (List ℕ)) (before : List ℕ) where
-  pub takes_none_of_too_many : counted words ≡ TooMany → TakingMeets words before TooMany before
+  pub takes_none_of_too_many : counted words ≡ Err TooMany → TakingMeets words before (Err TooMany) before
   takes_none_of_too_many e = record { answer = rw e; buffer = rw e }
 
-  pub takes_none_of_others : counted words ≡ NotAllNumbers → TakingMeets words before NotAllNumbers before
+  pub takes_none_of_others : counted words ≡ Err NotAllNumbers → TakingMeets words before (Err NotAllNumbers) before
   takes_none_of_others e = record { answer = rw e; buffer = rw e }
+
+  pub takes_none_uncounted : (why : NotTaken) → counted words ≡ Err why → TakingMeets words before (Err why) before
+  takes_none_uncounted why e = record { answer = rw e; buffer = rw e }

@@ -2,7 +2,8 @@
 #![tactic(auto)]
 
 ghost use Rattle.std.specs.Prelude.{◌≡◌};
-ghost use Rattle.words.specs.LineWords.{words, words_from};
+ghost use Rattle.words.specs.LineWords.{words};
+ghost use Rattle.words.specs.WordSteps.{words_left};
 ghost use Rattle.numbers.specs.Numbers.{numbers};
 ghost use Rattle.request_lines.specs.RequestLines.{request_of};
 ghost use Rattle.pod_lines.specs.PodLines.{Meaning, before_colon, after_colon, read_line, pod_words, pod_meaning, PodMeets};
@@ -10,7 +11,7 @@ ghost use Rattle.pod_lines.specs.PodLinesMirror.{behind};
 
 use numbers::Numbers;
 use requests::Request;
-use words::LineKind;
+use words::{LineKind, Words};
 
 mod taking;
 
@@ -27,10 +28,9 @@ pub enum PodLine {
     Unclear,
 }
 
-// What taking any count of words as numbers into a buffer answers.
-#[derive(Clone, Copy)]
-pub enum Taken {
-    Count(usize),
+// Why words are not taken as numbers into a buffer.
+#[derive(Clone, Copy, Debug, PartialEq, Eq)]
+pub enum NotTaken {
     TooMany,
     NotAllNumbers,
 }
@@ -42,92 +42,79 @@ pub struct Parted {
     pub colon: Option<usize>,
 }
 
-fn part_at_colon(line: &[u8], from: usize) -> Parted
-    ensures { (result.numbers ≡ numbers (before_colon (words_from line.now from)))
-        × (behind line.now result.colon ≡ after_colon (words_from line.now from)) }
+fn part_at_colon(mut words: Words) -> Parted
+    ensures { (result.numbers ≡ numbers (before_colon (words_left words.entry)))
+        × (behind words.entry.line.now result.colon ≡ after_colon (words_left words.entry)) }
 {
-    let mut before = Numbers::Zero;
-    let mut at = from;
-    loop {
-        let start = words::word_start(line, at);
-        if line.len() <= start {
-            return Parted {
-                numbers: before,
-                colon: None,
-            };
+    let mut numbers = Numbers::Zero;
+    while let Some(word) = words.next() {
+        if words::is_same(word, b":") {
+            let colon = Some(words.at);
+            return Parted { numbers, colon };
         }
-        let stop = words::word_end(line, start);
-        if words::is_same(&line[start..stop], b":") {
-            return Parted {
-                numbers: before,
-                colon: Some(stop),
-            };
-        }
-        before = numbers::add_number(before, numbers::read_number(&line[start..stop]));
-        at = stop;
+        numbers = numbers::add_number(numbers, numbers::read_number(word));
+    }
+    let colon = None;
+    Parted { numbers, colon }
+}
+
+fn take_replies(request: Request, words: Words, buffer: &mut [u32]) -> PodLine
+    ensures { PodMeets (Meaning.reads request (words_left words.entry)) buffer.old result buffer.new }
+{
+    match taking::take_numbers(words, buffer) {
+        Ok(count) => PodLine::Read(request, count),
+        Err(NotTaken::TooMany) => PodLine::BufferTooShort,
+        Err(NotTaken::NotAllNumbers) => PodLine::Unclear,
     }
 }
 
-fn take_replies(request: Request, line: &[u8], from: usize, buffer: &mut [u32]) -> PodLine
-    ensures { PodMeets (Meaning.reads request (words_from line.now from)) buffer.old result buffer.new }
-{
-    match taking::take_numbers(line, from, buffer) {
-        Taken::Count(count) => PodLine::Read(request, count),
-        Taken::TooMany => PodLine::BufferTooShort,
-        Taken::NotAllNumbers => PodLine::Unclear,
-    }
-}
-
-fn read_reading(asked: Option<Request>, colon: Option<usize>, line: &[u8], buffer: &mut [u32]) -> PodLine
+fn read_reading(
+    asked: Option<Request>,
+    colon: Option<usize>,
+    line: &[u8],
+    buffer: &mut [u32],
+) -> PodLine
     ensures { PodMeets (read_line asked (behind line.now colon)) buffer.old result buffer.new }
 {
-    match asked {
-        Some(request) => match colon {
-            Some(end) => take_replies(request, line, end, buffer),
-            None => PodLine::Unclear,
-        },
-        None => PodLine::Unclear,
+    match (asked, colon) {
+        (Some(request), Some(at)) => take_replies(request, Words { line, at }, buffer),
+        _ => PodLine::Unclear,
     }
 }
 
-fn read_read(line: &[u8], from: usize, buffer: &mut [u32]) -> PodLine
+fn read_read(mut words: Words, buffer: &mut [u32]) -> PodLine
     ensures { PodMeets
-        (read_line (request_of (before_colon (words_from line.now from))) (after_colon (words_from line.now from)))
+        (read_line (request_of (before_colon (words_left words.entry))) (after_colon (words_left words.entry)))
         buffer.old result buffer.new }
 {
-    let start = words::word_start(line, from);
-    if line.len() <= start {
+    let Some(name) = words.next() else {
+        return PodLine::Unclear;
+    };
+    if words::is_same(name, b":") {
         return PodLine::Unclear;
     }
-    let stop = words::word_end(line, start);
-    if words::is_same(&line[start..stop], b":") {
-        return PodLine::Unclear;
-    }
-    let parted = part_at_colon(line, stop);
-    let numbers = parted.numbers;
-    let colon = parted.colon;
-    let asked = request_lines::read_form(&line[start..stop], numbers);
-    read_reading(asked, colon, line, buffer)
+    let parted = part_at_colon(words);
+    let asked = request_lines::read_form(name, parted.numbers);
+    read_reading(asked, parted.colon, words.line, buffer)
 }
 
 fn read_words(line: &[u8], buffer: &mut [u32]) -> PodLine
     ensures { PodMeets (pod_words (words line.now)) buffer.old result buffer.new }
 {
-    let start = words::word_start(line, 0);
-    if line.len() <= start {
+    let mut words = Words { line, at: 0 };
+    let Some(name) = words.next() else {
         return PodLine::Unclear;
-    }
-    let stop = words::word_end(line, start);
-    if words::is_same(&line[start..stop], b"build") {
-        match request_lines::read_request(line, stop) {
-            Some(request) => return PodLine::Build(request),
-            None => return PodLine::Unclear,
+    };
+    if words::is_same(name, b"build") {
+        match request_lines::read_request(line, words.at) {
+            Some(request) => PodLine::Build(request),
+            None => PodLine::Unclear,
         }
+    } else if words::is_same(name, b"read") {
+        read_read(words, buffer)
+    } else {
+        PodLine::Unclear
     }
-    if words::is_same(&line[start..stop], b"read") {
-        return read_read(line, stop, buffer);
-    }
-    PodLine::Unclear
 }
 
 // The reply words of a `read` go to the front of the buffer; it stays as it was in every other case.

@@ -8,26 +8,27 @@ ghost use Rattle.port.specs.Packet.{packet_verdict, PacketMeets};
 use board::{Board, Place};
 use grounds::Ground;
 
-#[derive(Clone, Copy)]
+#[derive(Clone, Copy, Debug, PartialEq, Eq)]
 pub struct Answer {
     pub outcome: Result<u32, Ground>,
     pub board: Board,
     pub place: Place,
 }
 
+#[tactic(auto, unfolding(crate::specs::Packet::packet_verdict))]
 fn judge_packet(board: Board, place: Place, memory: &[u8], word: u32) -> Result<(), Ground>
     ensures { result ≡ packet_verdict (state_of board place memory.now) word }
 {
-    if ranges::is_in_range(board, place) {
-        if memory.len() <= 65536 {
-            if word <= 0x1FFFF {
-                return Ok(());
-            }
-            return Err(Ground::WordTooLarge);
-        }
+    if !ranges::is_in_range(board, place) {
+        return Err(Ground::StateOutOfRange);
+    }
+    if 65536 < memory.len() {
         return Err(Ground::MemoryTooLong);
     }
-    Err(Ground::StateOutOfRange)
+    if 0x1FFFF < word {
+        return Err(Ground::WordTooLarge);
+    }
+    Ok(())
 }
 
 pub fn take_packet(board: Board, place: Place, memory: &mut [u8], word: u32) -> Answer
@@ -37,18 +38,16 @@ pub fn take_packet(board: Board, place: Place, memory: &mut [u8], word: u32) -> 
         Ok(()) => {
             let reply = step::reply_of(place);
             let next = step::take_word(board, place, memory, word);
-            let board_next = next.board;
-            let place_next = next.place;
             Answer {
                 outcome: Ok(reply),
-                board: board_next,
-                place: place_next,
+                board: next.board,
+                place: next.place,
             }
         }
         Err(ground) => Answer {
             outcome: Err(ground),
-            board: board,
-            place: place,
+            board,
+            place,
         },
     }
 }

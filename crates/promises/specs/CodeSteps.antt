@@ -8,8 +8,9 @@ use Rattle.board.specs.State.{State, state_of}
 use Rattle.trigger.specs.declared.Event.{Event}
 use Rattle.port.specs.declared.Answer.{Answer}
 use Rattle.port.specs.Packet.{packet_verdict, PacketMeets, Unaltered, Stepped}
-use Rattle.bus.specs.declared.EventAnswer.{EventAnswer}
-use Rattle.bus.specs.declared.BreakpointAnswer.{BreakpointAnswer}
+use Rattle.firing.specs.declared.Seen.{Seen}
+use Rattle.firing.specs.declared.Pressed.{Pressed}
+use Rattle.bus.specs.declared.Answer.{Answer as BusAnswer}
 use Rattle.bus.specs.Events.{event_verdict, breakpoint_verdict, EventMeets, BreakpointMeets}
 use Rattle.promises.specs.Machine.{stand_in}
 use Rattle.promises.specs.History.{Lent, lending, after_call, made}
@@ -28,10 +29,10 @@ pub record CodeSteps : Type 0 where
   pub refused : (s : State) (m : Lent) (word : ℕ) (r : Answer) (out : List ℕ) (g : Ground) → PacketMeets (lending s m) word r out
       → packet_verdict (lending s m) word ≡ Err g → Unaltered (lending s m) g r out
   -- An event leaves what a history's event leaves, the place and memory untouched,
-  pub events : (s : State) (e : Event) (r : EventAnswer) → EventMeets s.board s.place e r
+  pub events : (s : State) (e : Event) (r : BusAnswer Seen) → EventMeets s.board s.place e r
       → state_of r.board s.place s.memory ≡ after_call stand_in s (event e)
   -- and the breakpoint input what a history's leaves.
-  pub inputs : (s : State) (r : BreakpointAnswer) → BreakpointMeets s.board s.place r
+  pub inputs : (s : State) (r : BusAnswer Pressed) → BreakpointMeets s.board s.place r
       → state_of r.board s.place s.memory ≡ after_call stand_in s breakpoint
   -- Refused calls change nothing: packets,
   pub still_packet : (s : State) (m : Lent) (word : ℕ) (g : Ground) → packet_verdict (lending s m) word ≡ Err g → after_call stand_in s (packet m word)

@@ -6,70 +6,40 @@ ghost use Rattle.ranges.specs.Ranges.{bstat_in_range, phase_in_range, board_in_r
 
 use board::{Board, Phase, Place};
 
+#[tactic(auto, unfolding(crate::specs::Ranges::bstat_in_range))]
 fn is_bstat(bstat: u32) -> bool
     ensures { result ≡ bstat_in_range bstat }
 {
-    match bstat {
-        0 => true,
-        1 => true,
-        2 => true,
-        5 => true,
-        6 => true,
-        _ => false,
-    }
+    matches!(bstat, 0 | 1 | 2 | 5 | 6)
 }
 
 fn is_phase_in_range(phase: Phase, w: u32) -> bool
     ensures { result ≡ phase_in_range w phase }
 {
     match phase {
-        Phase::Rest => true,
-        Phase::Due(command, left, _) => {
-            if 1 <= left {
-                return left <= command::operand_count(command);
-            }
-            false
-        }
+        Phase::Rest | Phase::Upper(_) => true,
+        Phase::Due(command, left, _) => 1 <= left && left <= command::operand_count(command),
         Phase::Waiting(command, left, _, _) => {
-            if 1 <= left {
-                if left <= w {
-                    return command::does_wait(command);
-                }
-                return false;
-            }
-            false
+            1 <= left && left <= w && command::does_wait(command)
         }
-        Phase::Upper(_) => true,
     }
 }
 
 fn is_board_in_range(board: Board) -> bool
     ensures { result ≡ board_in_range board }
 {
-    if board.w <= 15 {
-        return is_bstat(board.status.bstat);
-    }
-    false
+    board.w <= 15 && is_bstat(board.status.bstat)
 }
 
 fn is_place_in_range(place: Place, w: u32) -> bool
     ensures { result ≡ place_in_range w place }
 {
-    let phase = place.phase;
-    if is_phase_in_range(phase, w) {
-        if place.next <= 0x1FFFF {
-            return place.pointer <= 65536;
-        }
-        return false;
-    }
-    false
+    is_phase_in_range(place.phase, w) && place.next <= 0x1FFFF && place.pointer <= 65536
 }
 
+#[tactic(auto, unfolding(crate::specs::Ranges::in_range))]
 pub fn is_in_range(board: Board, place: Place) -> bool
     ensures { result ≡ in_range board place }
 {
-    if is_board_in_range(board) {
-        return is_place_in_range(place, board.w);
-    }
-    false
+    is_board_in_range(board) && is_place_in_range(place, board.w)
 }

@@ -9,19 +9,17 @@ pub fn rate_of(cycles: u32, starts: u32) -> Option<f64>
     ensures { result ≡ rate_of cycles starts }
 {
     if starts == 0 {
-        return None;
+        None
+    } else {
+        Some(f64::from(cycles) / f64::from(starts))
     }
-    Some(cycles as f64 / starts as f64)
 }
 
 // The bits of a double. A NaN, which no rate is, has none of its own: 0 stands for them.
 fn pattern_of(value: f64) -> u64
     ensures { result ≡ pattern value }
 {
-    if value != value {
-        return 0;
-    }
-    f64::to_bits(value)
+    if value.is_nan() { 0 } else { value.to_bits() }
 }
 
 // The bits of a rate, 0 where there is none.
@@ -39,7 +37,8 @@ pub fn count_hundredths(cycles: u32, starts: u32) -> u64
     ensures { result ≡ hundredths cycles starts }
 {
     if starts == 0 {
-        return 0;
+        0
+    } else {
+        (u64::from(cycles) * 200 + u64::from(starts)) / (u64::from(starts) * 2)
     }
-    (cycles as u64 * 200 + starts as u64) / (starts as u64 * 2)
 }

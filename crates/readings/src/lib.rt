@@ -10,7 +10,7 @@ use memory::Size;
 use requests::Request;
 
 // What the closing reply brings.
-#[derive(Clone, Copy)]
+#[derive(Clone, Copy, Debug, PartialEq, Eq)]
 pub enum Outcome {
     Value(u32),
     Complete,
@@ -19,7 +19,7 @@ pub enum Outcome {
 }
 
 // What one reads with, from reply to reply.
-#[derive(Clone, Copy)]
+#[derive(Clone, Copy, Debug, PartialEq, Eq)]
 pub enum Reader {
     // The first result word is still to come.
     First,
@@ -34,13 +34,8 @@ fn take_result(size: Size, reply: u32) -> Reader
     ensures { result ≡ result_word size reply }
 {
     match size {
-        Size::Byte => {
-            if reply <= 0xFF {
-                return Reader::Closed(Outcome::Value(reply));
-            }
-            Reader::Bad(Ground::ImpossibleReply)
-        }
-        Size::Word => Reader::Closed(Outcome::Value(reply)),
+        Size::Byte if 0xFF < reply => Reader::Bad(Ground::ImpossibleReply),
+        Size::Byte | Size::Word => Reader::Closed(Outcome::Value(reply)),
         Size::Long => Reader::Second(reply as u16),
     }
 }
@@ -50,12 +45,8 @@ fn take_data(kind: Option<Size>, reply: u32) -> Reader
     ensures { result ≡ data_reply kind reply }
 {
     match kind {
-        None => {
-            if reply == command::COMPLETE {
-                return Reader::Closed(Outcome::Complete);
-            }
-            Reader::Bad(Ground::ImpossibleReply)
-        }
+        None if reply == command::COMPLETE => Reader::Closed(Outcome::Complete),
+        None => Reader::Bad(Ground::ImpossibleReply),
         Some(size) => take_result(size, reply),
     }
 }
@@ -75,18 +66,20 @@ fn take_first(kind: Option<Size>, reply: u32) -> Reader
     ensures { result ≡ first_reply kind reply }
 {
     if reply <= 0xFFFF {
-        return take_data(kind, reply);
+        take_data(kind, reply)
+    } else {
+        take_status(reply)
     }
-    take_status(reply)
 }
 
 fn take_second(upper: u16, reply: u32) -> Reader
     ensures { result ≡ second_reply upper reply }
 {
     if reply <= 0xFFFF {
-        return Reader::Closed(Outcome::Value((upper as u32) * 65536 + reply));
+        Reader::Closed(Outcome::Value(u32::from(upper) * 65536 + reply))
+    } else {
+        Reader::Bad(Ground::ImpossibleReply)
     }
-    Reader::Bad(Ground::ImpossibleReply)
 }
 
 // The reader after one reply more. A reader that is done stays as it is.
@@ -94,58 +87,41 @@ pub fn take_reply(kind: Option<Size>, reader: Reader, reply: u32) -> Reader
     ensures { result ≡ after_reply kind reader reply }
 {
     match reader {
-        Reader::First => {
-            if reply <= 0x1FFFF {
-                return take_first(kind, reply);
-            }
-            Reader::Bad(Ground::WordTooLarge)
-        }
-        Reader::Second(upper) => {
-            if reply <= 0x1FFFF {
-                return take_second(upper, reply);
-            }
-            Reader::Bad(Ground::WordTooLarge)
-        }
-        Reader::Closed(outcome) => Reader::Closed(outcome),
-        Reader::Bad(ground) => Reader::Bad(ground),
+        Reader::Closed(_) | Reader::Bad(_) => reader,
+        _ if 0x1FFFF < reply => Reader::Bad(Ground::WordTooLarge),
+        Reader::First => take_first(kind, reply),
+        Reader::Second(upper) => take_second(upper, reply),
     }
 }
 
 pub fn is_done(reader: Reader) -> bool
     ensures { result ≡ done reader }
 {
-    match reader {
-        Reader::First => false,
-        Reader::Second(_) => false,
-        Reader::Closed(_) => true,
-        Reader::Bad(_) => true,
-    }
+    matches!(reader, Reader::Closed(_) | Reader::Bad(_))
 }
 
 fn answer_of(reader: Reader, used: usize) -> Result<(Option<Outcome>, usize), Ground>
     ensures { result ≡ answered reader used }
 {
     match reader {
-        Reader::First => Ok((None, used)),
-        Reader::Second(_) => Ok((None, used)),
+        Reader::First | Reader::Second(_) => Ok((None, used)),
         Reader::Closed(outcome) => Ok((Some(outcome), used)),
         Reader::Bad(ground) => Err(ground),
     }
 }
 
+#[tactic(auto, using(crate::specs::ReaderLaws::from_done))]
 fn read_replies(kind: Option<Size>, replies: &[u32]) -> Result<(Option<Outcome>, usize), Ground>
     ensures { result ≡ reading_of kind replies.now }
 {
     let mut reader = Reader::First;
-    let mut used = 0;
-    while used < replies.len() {
+    for (used, reply) in replies.iter().enumerate() {
         if is_done(reader) {
             return answer_of(reader, used);
         }
-        reader = take_reply(kind, reader, replies[used]);
-        used += 1;
+        reader = take_reply(kind, reader, *reply);
     }
-    answer_of(reader, used)
+    answer_of(reader, replies.len())
 }
 
 // The replies start with the one to the packet after the command word.
@@ -153,7 +129,8 @@ pub fn read(request: Request, replies: &[u32]) -> Result<(Option<Outcome>, usize
     ensures { ReadingMeets request replies.now result }
 {
     if requests::is_in_range(request) {
-        return read_replies(requests::kind_of(request), replies);
+        read_replies(requests::kind_of(request), replies)
+    } else {
+        Err(Ground::RequestOutOfRange)
     }
-    Err(Ground::RequestOutOfRange)
 }

@@ -6,8 +6,8 @@ ghost use Rattle.text.specs.Text.{Puts};
 ghost use Rattle.replies.specs.ReplyText.{packet_text, halted_text, captured_text, halting_text, seen_text};
 ghost use Rattle.replies.specs.ReplyText.{event_text, pressed_text, breakpoint_text, bytes_text, peek_text};
 
-use grounds::Ground;
 use firing::{Pressed, Seen};
+use grounds::Ground;
 use halting::Halting;
 use refusal_text::put_refusal;
 
@@ -57,13 +57,11 @@ fn put_halting(text: &mut [u8], at: usize, halting: Halting) -> usize
 fn put_seen(text: &mut [u8], seen: Seen) -> usize
     ensures { Puts text.old 0 (seen_text seen) text.new result }
 {
-    let captured = seen.captured;
-    let halting = seen.halting;
     let at = text::put_text(text, 0, b"event level ");
     let at = text::put_hex(text, at, seen.level, 1);
     let at = put_halted(text, at, seen.halted, seen.interrupt);
-    let at = put_captured(text, at, captured);
-    put_halting(text, at, halting)
+    let at = put_captured(text, at, seen.captured);
+    put_halting(text, at, seen.halting)
 }
 
 pub fn put_event(text: &mut [u8], outcome: Result<Seen, Ground>) -> usize
@@ -95,30 +93,17 @@ pub fn put_breakpoint(text: &mut [u8], outcome: Result<Pressed, Ground>) -> usiz
 fn byte_of(memory: &[u8], from: usize, i: usize) -> u32
     ensures { result ≡ get_or memory.now (from + i) 0 }
 {
-    if from <= memory.len() {
-        if i < memory.len() - from {
-            return wide(memory[from + i]);
-        }
-        return 0;
-    }
-    0
-}
-
-fn wide(byte: u8) -> u32
-    ensures { result ≡ byte }
-{
-    byte as u32
+    memory
+        .get(from.saturating_add(i))
+        .map_or(0, |byte| u32::from(*byte))
 }
 
 fn put_memory(memory: &[u8], from: usize, count: u32, text: &mut [u8], at: usize) -> usize
     ensures { Puts text.old at (bytes_text memory.now from count) text.new result }
 {
     let mut to = at;
-    let mut i: usize = 0;
-    let most = count as usize;
-    while i < most {
+    for i in 0..count as usize {
         to = text::put_hex(text, to, byte_of(memory, from, i), 2);
-        i += 1;
     }
     to
 }

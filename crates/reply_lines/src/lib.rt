@@ -7,9 +7,9 @@ ghost use Rattle.numbers.specs.Numbers.{numeral};
 ghost use Rattle.reply_lines.specs.ReplyLines.{reply_form, reply_line, reply_of_one, reply_words, table_of};
 
 use numbers::Numbers;
-use words::LineKind;
+use words::{LineKind, Words};
 
-#[derive(Clone, Copy)]
+#[derive(Clone, Copy, Debug, PartialEq, Eq)]
 pub enum ReplyLine {
     // An empty line or a comment.
     Nothing,
@@ -17,40 +17,38 @@ pub enum ReplyLine {
     NoReply,
 }
 
+#[tactic(auto, unfolding(crate::specs::ReplyLines::reply_of_one))]
 fn reply_of_one(name: &[u8], n: u32) -> ReplyLine
     ensures { result ≡ reply_of_one name.now n }
 {
     if words::is_same(name, b"reply") {
-        return ReplyLine::Reply(n);
+        ReplyLine::Reply(n)
+    } else {
+        ReplyLine::NoReply
     }
-    ReplyLine::NoReply
 }
 
 fn read_form(name: &[u8], numbers: Numbers) -> ReplyLine
     ensures { result ≡ reply_form name.now numbers }
 {
     match numbers {
-        Numbers::Zero => ReplyLine::NoReply,
         Numbers::One(n) => reply_of_one(name, n),
-        Numbers::Two(_, _) => ReplyLine::NoReply,
-        Numbers::Three(_, _, _) => ReplyLine::NoReply,
-        Numbers::Four(_, _, _, _) => ReplyLine::NoReply,
-        Numbers::NotNumbers => ReplyLine::NoReply,
+        _ => ReplyLine::NoReply,
     }
 }
 
+#[tactic(auto, unfolding(crate::specs::ReplyLines::reply_words))]
 fn read_words(line: &[u8]) -> ReplyLine
     ensures { result ≡ reply_words (words line.now) }
 {
-    let start = words::word_start(line, 0);
-    if line.len() <= start {
+    let mut words = Words { line, at: 0 };
+    let Some(name) = words.next() else {
         return ReplyLine::NoReply;
-    }
-    let stop = words::word_end(line, start);
-    let numbers = numbers::read_numbers(line, stop);
-    read_form(&line[start..stop], numbers)
+    };
+    read_form(name, numbers::read_numbers(line, words.at))
 }
 
+#[tactic(auto, unfolding(crate::specs::ReplyLines::reply_line))]
 pub fn read_line(line: &[u8]) -> ReplyLine
     ensures { result ≡ reply_line line.now }
 {
@@ -64,13 +62,7 @@ pub fn read_line(line: &[u8]) -> ReplyLine
 fn table_of(address: Option<u32>, longwords: Option<u32>) -> Option<(u32, u32)>
     ensures { result ≡ table_of address longwords }
 {
-    let Some(from) = address else {
-        return None;
-    };
-    let Some(count) = longwords else {
-        return None;
-    };
-    Some((from, count))
+    Some((address?, longwords?))
 }
 
 pub fn read_table(address: &[u8], longwords: &[u8]) -> Option<(u32, u32)>

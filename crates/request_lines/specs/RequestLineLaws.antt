@@ -28,3 +28,6 @@ no_size_of_a_shorter name stem h =
 pub size_behind_lem : (name stem : List ℕ) → same (take (length stem) name) stem ≡ true → size_behind name stem ≡ size_behind (drop (length stem) name) []
 unfolding size_behind
 size_behind_lem name stem e = rw (same_parts name stem (ascii ".b"), same_parts name stem (ascii ".w"), same_parts name stem (ascii ".l"), e)
+
+-- a name by its stem
+pub ruleset by_stem = (no_size_of_another, no_size_of_a_shorter, size_behind_lem)

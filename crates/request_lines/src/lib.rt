@@ -9,108 +9,101 @@ ghost use Rattle.request_lines.specs.RequestLines.{request_of_none, request_of_o
 use memory::Size;
 use numbers::Numbers;
 use requests::Request;
+use words::Words;
 
+#[tactic(auto, unfolding(crate::specs::RequestLines::size_behind))]
 fn size_named(suffix: &[u8]) -> Option<Size>
     ensures { result ≡ size_behind suffix.now [] }
 {
     if words::is_same(suffix, b".b") {
-        return Some(Size::Byte);
+        Some(Size::Byte)
+    } else if words::is_same(suffix, b".w") {
+        Some(Size::Word)
+    } else if words::is_same(suffix, b".l") {
+        Some(Size::Long)
+    } else {
+        None
     }
-    if words::is_same(suffix, b".w") {
-        return Some(Size::Word);
-    }
-    if words::is_same(suffix, b".l") {
-        return Some(Size::Long);
-    }
-    None
 }
 
+#[tactic(auto, using(crate::specs::RequestLineLaws::by_stem))]
 fn size_behind(name: &[u8], stem: &[u8]) -> Option<Size>
     ensures { result ≡ size_behind name.now stem.now }
 {
-    let end = stem.len();
-    if name.len() < end {
-        return None;
+    match name.split_at_checked(stem.len()) {
+        Some((front, suffix)) if words::is_same(front, stem) => size_named(suffix),
+        _ => None,
     }
-    if words::is_same(&name[0..end], stem) {
-        return size_named(&name[end..]);
-    }
-    None
 }
 
+#[tactic(auto, unfolding(crate::specs::RequestLines::plain_request))]
 fn plain_request(name: &[u8]) -> Option<Request>
     ensures { result ≡ plain_request name.now }
 {
     if words::is_same(name, b"go") {
-        return Some(Request::Go);
+        Some(Request::Go)
+    } else if words::is_same(name, b"nop") {
+        Some(Request::Nop)
+    } else if words::is_same(name, b"sync_pc") {
+        Some(Request::SyncPc)
+    } else {
+        None
     }
-    if words::is_same(name, b"nop") {
-        return Some(Request::Nop);
-    }
-    if words::is_same(name, b"sync_pc") {
-        return Some(Request::SyncPc);
-    }
-    None
 }
 
+#[tactic(auto, unfolding(crate::specs::RequestLines::register_read))]
 fn register_read(name: &[u8], n: u32) -> Option<Request>
     ensures { result ≡ register_read name.now n }
 {
     if words::is_same(name, b"rdreg") {
-        return Some(Request::Rdreg(n));
+        Some(Request::Rdreg(n))
+    } else if words::is_same(name, b"rcreg") {
+        Some(Request::Rcreg(n))
+    } else if words::is_same(name, b"rdmreg") {
+        Some(Request::Rdmreg(n))
+    } else {
+        None
     }
-    if words::is_same(name, b"rcreg") {
-        return Some(Request::Rcreg(n));
-    }
-    if words::is_same(name, b"rdmreg") {
-        return Some(Request::Rdmreg(n));
-    }
-    None
 }
 
+#[tactic(auto, unfolding(crate::specs::RequestLines::register_written))]
 fn register_written(name: &[u8], n: u32, value: u32) -> Option<Request>
     ensures { result ≡ register_written name.now n value }
 {
     if words::is_same(name, b"wdreg") {
-        return Some(Request::Wdreg(n, value));
+        Some(Request::Wdreg(n, value))
+    } else if words::is_same(name, b"wcreg") {
+        Some(Request::Wcreg(n, value))
+    } else if words::is_same(name, b"wdmreg") {
+        Some(Request::Wdmreg(n, value))
+    } else {
+        None
     }
-    if words::is_same(name, b"wcreg") {
-        return Some(Request::Wcreg(n, value));
-    }
-    if words::is_same(name, b"wdmreg") {
-        return Some(Request::Wdmreg(n, value));
-    }
-    None
 }
 
 fn request_of_none(name: &[u8]) -> Option<Request>
     ensures { result ≡ request_of_none name.now }
 {
-    match size_behind(name, b"dump") {
-        Some(size) => Some(Request::Dump(size)),
-        None => plain_request(name),
-    }
+    size_behind(name, b"dump")
+        .map(|size| Request::Dump(size))
+        .or_else(|| plain_request(name))
 }
 
 fn request_of_one(name: &[u8], n: u32) -> Option<Request>
     ensures { result ≡ request_of_one name.now n }
 {
-    match size_behind(name, b"read") {
-        Some(size) => Some(Request::Read(size, n)),
-        None => match size_behind(name, b"fill") {
-            Some(size) => Some(Request::Fill(size, n)),
-            None => register_read(name, n),
-        },
-    }
+    size_behind(name, b"read")
+        .map(|size| Request::Read(size, n))
+        .or_else(|| size_behind(name, b"fill").map(|size| Request::Fill(size, n)))
+        .or_else(|| register_read(name, n))
 }
 
 fn request_of_two(name: &[u8], n: u32, value: u32) -> Option<Request>
     ensures { result ≡ request_of_two name.now n value }
 {
-    match size_behind(name, b"write") {
-        Some(size) => Some(Request::Write(size, n, value)),
-        None => register_written(name, n, value),
-    }
+    size_behind(name, b"write")
+        .map(|size| Request::Write(size, n, value))
+        .or_else(|| register_written(name, n, value))
 }
 
 pub fn read_form(name: &[u8], numbers: Numbers) -> Option<Request>
@@ -120,9 +113,7 @@ pub fn read_form(name: &[u8], numbers: Numbers) -> Option<Request>
         Numbers::Zero => request_of_none(name),
         Numbers::One(n) => request_of_one(name, n),
         Numbers::Two(n, value) => request_of_two(name, n, value),
-        Numbers::Three(_, _, _) => None,
-        Numbers::Four(_, _, _, _) => None,
-        Numbers::NotNumbers => None,
+        Numbers::Three(..) | Numbers::Four(..) | Numbers::NotNumbers => None,
     }
 }
 
@@ -130,13 +121,9 @@ pub fn read_form(name: &[u8], numbers: Numbers) -> Option<Request>
 pub fn read_request(line: &[u8], from: usize) -> Option<Request>
     ensures { result ≡ request_of (words_from line.now from) }
 {
-    let start = words::word_start(line, from);
-    if line.len() <= start {
-        return None;
-    }
-    let stop = words::word_end(line, start);
-    let numbers = numbers::read_numbers(line, stop);
-    read_form(&line[start..stop], numbers)
+    let mut words = Words { line, at: from };
+    let name = words.next()?;
+    read_form(name, numbers::read_numbers(line, words.at))
 }
 
 // A request alone on its line.

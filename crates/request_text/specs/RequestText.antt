@@ -26,10 +26,14 @@ words_text words = ascii "words" ++ each_word words
 abbrev pub used_text : ℕ → List ℕ
 used_text used = ascii " used " ++ decimal_text used
 
+-- what is read so far
+abbrev pub so_far_text : Option Outcome → List ℕ
+so_far_text (Some outcome) = outcome_text outcome
+so_far_text None = ascii "not-yet"
+
 -- "`value V used N`, `complete used N`, `bus-error used N`, `illegal used N`, `not-yet used N` (.., N decimal); or `refused N at 0`"
 abbrev pub reading_text : Result (Option Outcome × ℕ) Ground → List ℕ
-reading_text (Ok (Some outcome, used)) = outcome_text outcome ++ used_text used
-reading_text (Ok (None, used)) = ascii "not-yet" ++ used_text used
+reading_text (Ok (outcome, used)) = so_far_text outcome ++ used_text used
 reading_text (Err why) = refused_text why
 
 -- "`value V packets N`, `complete packets N`, ..; N decimal"

@@ -2,7 +2,7 @@
 #![tactic(auto)]
 
 ghost use Rattle.text.specs.Text.{Puts};
-ghost use Rattle.request_text.specs.RequestText.{outcome_text, words_text, used_text, reading_text, exchange_text};
+ghost use Rattle.request_text.specs.RequestText.{outcome_text, words_text, so_far_text, used_text, reading_text, exchange_text};
 
 use grounds::Ground;
 use readings::Outcome;
@@ -28,11 +28,9 @@ pub fn put_words(text: &mut [u8], words: &[u32]) -> usize
     ensures { Puts text.old 0 (words_text words.now) text.new result }
 {
     let mut at = put_text(text, 0, b"words");
-    let mut i: usize = 0;
-    while i < words.len() {
+    for word in words {
         at = put_byte(text, at, b' ');
-        at = put_hex(text, at, words[i], 5);
-        i += 1;
+        at = put_hex(text, at, *word, 5);
     }
     at
 }
@@ -44,17 +42,22 @@ fn put_used(text: &mut [u8], at: usize, used: usize) -> usize
     put_decimal(text, at, used)
 }
 
+fn put_so_far(text: &mut [u8], outcome: Option<Outcome>) -> usize
+    ensures { Puts text.old 0 (so_far_text outcome) text.new result }
+{
+    match outcome {
+        Some(outcome) => put_outcome(text, outcome),
+        None => put_text(text, 0, b"not-yet"),
+    }
+}
+
 // `.. used N`
 pub fn put_reading(text: &mut [u8], reading: Result<(Option<Outcome>, usize), Ground>) -> usize
     ensures { Puts text.old 0 (reading_text reading) text.new result }
 {
     match reading {
-        Ok((Some(outcome), used)) => {
-            let at = put_outcome(text, outcome);
-            put_used(text, at, used)
-        }
-        Ok((None, used)) => {
-            let at = put_text(text, 0, b"not-yet");
+        Ok((outcome, used)) => {
+            let at = put_so_far(text, outcome);
             put_used(text, at, used)
         }
         Err(ground) => put_refusal(text, ground),

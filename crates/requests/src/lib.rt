@@ -30,7 +30,7 @@ fn is_data(size: Size, value: u32) -> bool
     match size {
         Size::Byte => value <= 0xFF,
         Size::Word => value <= 0xFFFF,
-        Size::Long => value <= 0xFFFFFFFF,
+        Size::Long => true,
     }
 }
 
@@ -38,19 +38,12 @@ pub fn is_in_range(request: Request) -> bool
     ensures { result ≡ in_range request }
 {
     match request {
-        Request::Rdreg(register) => register <= 15,
-        Request::Wdreg(register, _) => register <= 15,
-        Request::Read(_, address) => is_data(Size::Long, address),
-        Request::Write(size, _, value) => is_data(size, value),
-        Request::Dump(_) => true,
-        Request::Fill(size, value) => is_data(size, value),
-        Request::Go => true,
-        Request::Nop => true,
-        Request::SyncPc => true,
-        Request::Rcreg(rc) => rc <= 0xFFF,
-        Request::Wcreg(rc, _) => rc <= 0xFFF,
-        Request::Rdmreg(n) => n <= 31,
-        Request::Wdmreg(n, _) => n <= 31,
+        Request::Rdreg(register) | Request::Wdreg(register, _) => register <= 15,
+        Request::Write(size, _, value) | Request::Fill(size, value) => is_data(size, value),
+        Request::Rcreg(rc) | Request::Wcreg(rc, _) => rc <= 0xFFF,
+        Request::Rdmreg(n) | Request::Wdmreg(n, _) => n <= 31,
+        // An address is a longword, and each number of its type is one.
+        Request::Read(..) | Request::Dump(_) | Request::Go | Request::Nop | Request::SyncPc => true,
     }
 }
 
@@ -58,18 +51,13 @@ pub fn kind_of(request: Request) -> Option<Size>
     ensures { result ≡ kind_of request }
 {
     match request {
-        Request::Rdreg(_) => Some(Size::Long),
-        Request::Wdreg(_, _) => None,
-        Request::Read(size, _) => Some(size),
-        Request::Write(_, _, _) => None,
-        Request::Dump(size) => Some(size),
-        Request::Fill(_, _) => None,
-        Request::Go => None,
-        Request::Nop => None,
-        Request::SyncPc => None,
-        Request::Rcreg(_) => Some(Size::Long),
-        Request::Wcreg(_, _) => None,
-        Request::Rdmreg(_) => Some(Size::Long),
-        Request::Wdmreg(_, _) => None,
+        Request::Rdreg(_) | Request::Rcreg(_) | Request::Rdmreg(_) => Some(Size::Long),
+        Request::Read(size, _) | Request::Dump(size) => Some(size),
+        Request::Wdreg(..)
+        | Request::Write(..)
+        | Request::Fill(..)
+        | Request::Wcreg(..)
+        | Request::Wdmreg(..) => None,
+        Request::Go | Request::Nop | Request::SyncPc => None,
     }
 }

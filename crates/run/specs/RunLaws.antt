@@ -79,6 +79,13 @@ within_on words i within h = rw (add-one i, drop-cons words i 0 h) (turned (leb 
     turned false true z = refl
     turned false false z = refl
 
+-- the same, the words before it first
+pub within_next : (words : List ℕ) (i : ℕ) (within : Bool) → i < length words
+    → ((within && leb (get_or words i 0) 0x1FFFF) && all_within (drop (i + 1) words)) ≡ (within && all_within (drop i words))
+unfolding all_within
+within_next words i true h = rw (add-one i, drop-cons words i 0 h)
+within_next words i false h = refl
+
 -- the words are done
 pub ran_out : (words : List ℕ) (i : ℕ) (s : State) → length words ≤ i → ran (drop i words) s ≡ s
 unfolding ran

@@ -1,7 +1,7 @@
 // A run of packets over a lent list into a lent list of replies (01, "Packets").
 #![tactic(auto)]
 
-ghost use Rattle.std.specs.Prelude.{◌≡◌, ◌≤◌, true, ◌&&◌, leb, length};
+ghost use Rattle.std.specs.Prelude.{◌≡◌, ◌≤◌, true, length};
 ghost use Rattle.board.specs.State.{state_of};
 ghost use Rattle.run.specs.Run.{ran, all_within, run_verdict, RunMeets};
 ghost use Rattle.run.specs.RunMirror.{written, idled, has_short_way, short_way};
@@ -11,20 +11,11 @@ use grounds::Ground;
 use plan::Plan;
 use step::Next;
 
-#[derive(Clone, Copy)]
+#[derive(Clone, Copy, Debug, PartialEq, Eq)]
 pub struct Ran {
     pub verdict: Result<(), Ground>,
     pub board: Board,
     pub place: Place,
-}
-
-fn still_within(within: bool, word: u32) -> bool
-    ensures { result ≡ (leb word 0x1FFFF && within) }
-{
-    if word <= 0x1FFFF {
-        return within;
-    }
-    false
 }
 
 // To the end in any case: a loop with one way out compiles to steps of several words.
@@ -32,45 +23,44 @@ fn all_within(words: &[u32]) -> bool
     ensures { result ≡ all_within words.now }
 {
     let mut within = true;
-    let mut i = 0;
-    while i < words.len() {
-        within = still_within(within, words[i]);
-        i += 1;
+    for &word in words {
+        within &= word <= 0x1FFFF;
     }
     within
 }
 
-fn judge_run(board: Board, place: Place, memory: &[u8], words: &[u32], room: usize) -> Result<(), Ground>
+#[tactic(auto, unfolding(crate::specs::Run::run_verdict))]
+fn judge_run(
+    board: Board,
+    place: Place,
+    memory: &[u8],
+    words: &[u32],
+    room: usize,
+) -> Result<(), Ground>
     ensures { result ≡ run_verdict (state_of board place memory.now) words.now room }
 {
-    if ranges::is_in_range(board, place) {
-        if memory.len() <= 65536 {
-            if all_within(words) {
-                if words.len() <= room {
-                    return Ok(());
-                }
-                return Err(Ground::BufferTooShort);
-            }
-            return Err(Ground::WordTooLarge);
-        }
+    if !ranges::is_in_range(board, place) {
+        return Err(Ground::StateOutOfRange);
+    }
+    if 65536 < memory.len() {
         return Err(Ground::MemoryTooLong);
     }
-    Err(Ground::StateOutOfRange)
+    if !all_within(words) {
+        return Err(Ground::WordTooLarge);
+    }
+    if room < words.len() {
+        return Err(Ground::BufferTooShort);
+    }
+    Ok(())
 }
 
 // A packet that the place alone decides: a NOP at rest, an operand word but the last, and that which brings the low result word.
 fn has_short_way(place: Place, word: u32) -> bool
     ensures { result ≡ has_short_way place.phase word }
 {
-    let phase = place.phase;
-    match phase {
+    match place.phase {
         Phase::Rest => word == 0,
-        Phase::Due(_, left, _) => {
-            if 2 <= left {
-                return word <= 0xFFFF;
-            }
-            false
-        }
+        Phase::Due(_, left, _) => 2 <= left && word <= 0xFFFF,
         Phase::Waiting(_, _, _, _) => false,
         Phase::Upper(_) => true,
     }
@@ -79,16 +69,20 @@ fn has_short_way(place: Place, word: u32) -> bool
 fn stay_idle(place: Place) -> Place
     ensures { result ≡ idled place }
 {
-    let chain = place.chain;
-    board::set_place(place, Phase::Rest, chain, place.pointer, command::COMPLETE)
+    board::set_place(
+        place,
+        Phase::Rest,
+        place.chain,
+        place.pointer,
+        command::COMPLETE,
+    )
 }
 
 fn take_short_way(place: Place, word: u32) -> Place
     requires { has_short_way place.phase word ≡ true }
     ensures { result ≡ short_way place.phase place word }
 {
-    let phase = place.phase;
-    match phase {
+    match place.phase {
         Phase::Rest => stay_idle(place),
         Phase::Due(command, left, taken) => {
             let all = plan::take_operand(taken, word as u16);
@@ -114,19 +108,15 @@ fn take_words(
     let mut p = place;
     // By the phase at first; after any packet it is the one held.
     let mut reply = step::reply_of(place);
-    let mut i = 0;
-    while i < words.len() {
-        let word = words[i];
+    for (i, &word) in words.iter().enumerate() {
         replies[i] = reply;
-        i += 1;
         if has_short_way(p, word) {
             p = take_short_way(p, word);
             reply = p.next;
             continue;
         }
-        let phase = p.phase;
         let held = b.fault;
-        let fault = faults::after_word(phase, word, held);
+        let fault = faults::after_word(p.phase, word, held);
         let plan = step::plan_for(b, p, word);
         let Plan::Work(_, _, _) = plan else {
             // Where none is held none is cleared: the board is large, and not copied.
@@ -162,18 +152,16 @@ pub fn take_packets(
     match verdict {
         Ok(()) => {
             let next = take_words(board, place, memory, words, replies);
-            let board_next = next.board;
-            let place_next = next.place;
             Ran {
-                verdict: verdict,
-                board: board_next,
-                place: place_next,
+                verdict,
+                board: next.board,
+                place: next.place,
             }
         }
         Err(_) => Ran {
-            verdict: verdict,
-            board: board,
-            place: place,
+            verdict,
+            board,
+            place,
         },
     }
 }

@@ -1,5 +1,6 @@
 -- Laws of what an exchange answers: its value is read from replies, so that eight digits hold it, and twenty the number of its packets.
-use Rattle.std.specs.Prelude.{ℕ, ◌+◌, ◌*◌, ◌^◌, ◌≤◌, ◌<◌, ◌≡◌, refl, Bool, true, false, cond, List, [], ◌∷◌, leb, eqb, length, Err, None, Ok, Option, Result, Some, ⊤}
+use Rattle.std.specs.Prelude.{ℕ, ◌+◌, ◌*◌, ◌^◌, ◌≤◌, ◌<◌, ◌≡◌, refl, Bool, true, false, cond, List, [], ◌∷◌, leb, eqb, length, Err, None, Ok, Option, Result}
+use Rattle.std.specs.Prelude.{Some, ⊤}
 use Rattle.grounds.specs.declared.Ground.{Ground}
 use Rattle.std.proofs.Common.{arith, leb-true}
 use Rattle.memory.specs.declared.Size.{Size}

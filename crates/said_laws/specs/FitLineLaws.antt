@@ -1,8 +1,7 @@
 -- Laws of lines that are clear: none of them is taken for a silent one, and `peek` shows "N from 1 to 400" bytes.
-use Rattle.std.specs.Prelude.{ℕ, ◌≤◌, ◌≡◌, refl, Bool, true, false, cond, ◌&&◌, List, [], ◌∷◌, leb, None, Some}
+use Rattle.std.specs.Prelude.{ℕ, ◌≤◌, ◌≡◌, refl, Bool, true, false, cond, ◌&&◌, List, [], ◌∷◌, leb, None, Some, Option}
 use Rattle.requests.specs.declared.Request.{Request}
 use Rattle.halting.specs.declared.Privilege.{Privilege}
-use Rattle.std.proofs.Math.Option.{Option, none, some}
 use Rattle.std.proofs.Common.{leb-true}
 use Rattle.laws.specs.TestLaws.{both_hold}
 use Rattle.words.specs.LineWords.{ascii, same}
@@ -157,8 +156,8 @@ build_fit (Some request) = tt
 build_fit None = tt
 
 read_fit : (asked : Option Request) (replies : Option (List (List ℕ))) → PodFit (read_line asked replies)
-read_fit (Some request) (some replies) = tt
-read_fit (Some request) none = tt
+read_fit (Some request) (Some replies) = tt
+read_fit (Some request) None = tt
 read_fit None replies = tt
 
 pub pod_fit : (ws : List (List ℕ)) → PodFit (pod_words ws)

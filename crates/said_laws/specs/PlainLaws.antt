@@ -1,5 +1,7 @@
 -- Laws of what an answer is made of: letters, digits and spaces, so that no line end is among its bytes; and every answer but that to a silent line has some.
-use Rattle.std.specs.Prelude.{ℕ, zero, suc, ◌+◌, ◌/◌, ◌%◌, ◌^◌, ◌≤◌, ◌<◌, ◌≡◌, refl, Bool, true, false, cond, ◌&&◌, List, [], ◌∷◌, ◌++◌, leb, ltb, Err, None, Ok, Option, Result, Some, ⊤}
+use Rattle.std.specs.Prelude.{ℕ, zero, suc, ◌+◌, ◌/◌, ◌%◌, ◌^◌, ◌≤◌, ◌<◌, ◌≡◌, refl, Bool, true, false, cond, ◌&&◌, List, [], ◌∷◌, ◌++◌, leb, ltb, Err, None}
+use Rattle.std.specs.Prelude.{Ok, Option, Result, Some, ⊤}
+use Rattle.readings.specs.declared.Outcome.{Outcome}
 use Rattle.firing.specs.declared.Pressed.{Pressed}
 use Rattle.firing.specs.declared.Seen.{Seen}
 use Rattle.std.specs.Prelude.{length, get_or, take}
@@ -36,8 +38,8 @@ use Rattle.request_text.specs.RequestText.{outcome_text, each_word, used_text, r
 use Rattle.replies.specs.ReplyText.{packet_text, halted_text, captured_text, halting_text, event_text, breakpoint_text, bytes_text}
 use Rattle.state_line.specs.StateText.{Field, fields_text, status_fields, debug_fields, data_fields, address_fields, control_fields, sync_fields}
 use Rattle.state_line.specs.StateText.{registers_text, phase_text, chain_text, place_text, fault_text, state_text}
-use Rattle.pod_lines.specs.declared.Taken.{Taken}
-use Rattle.pod_lines.specs.declared.Taken.TheVariants.{Count, TooMany, NotAllNumbers}
+use Rattle.pod_lines.specs.declared.NotTaken.{NotTaken}
+use Rattle.pod_lines.specs.declared.NotTaken.TheVariants.{TooMany, NotAllNumbers}
 use Rattle.pod_lines.specs.Taking.{values, counted, taken}
 use Rattle.pod_lines.specs.PodLines.{Meaning, nothing, builds, reads, unclear}
 use Rattle.answers.specs.declared.Bench.{Bench}
@@ -255,7 +257,7 @@ outcome_spoken Illegal = record { some = omega arith; plain = letters "illegal" 
 with_rest : {t u : List ℕ} → Spoken t → Plain u → Spoken (t ++ u)
 with_rest {t} {u} s p = record { some = simp length-append (omega (arith, s.some)); plain = s.plain and p }
 
-pub exchange_spoken : (x : Result (Outcome × ℕ) Ground) → Spoken (exchanged_text x)
+pub exchange_spoken : (x : Result (Closing × ℕ) Ground) → Spoken (exchanged_text x)
 exchange_spoken (Ok (outcome, packets)) = with_rest (with_rest (outcome_spoken outcome) (letters " packets " refl)) (decimal packets)
 exchange_spoken (Err why) = refused_spoken why 0
 
@@ -276,10 +278,10 @@ built_spoken : (v : Result ⊤ Ground) (words : List ℕ) → Spoken (built_by v
 built_spoken (Ok _) words = record { some = omega arith; plain = letters "words" refl and each_plain words }
 built_spoken (Err why) words = refused_spoken why 0
 
-read_spoken : (request : Request) (t : Taken) (replies : List ℕ) → Spoken (read_text request t replies)
-read_spoken request (Count n) replies = reading_spoken (reading request replies)
-read_spoken request TooMany replies = unclear_spoken
-read_spoken request NotAllNumbers replies = unclear_spoken
+read_spoken : (request : Request) (t : Result ℕ NotTaken) (replies : List ℕ) → Spoken (read_text request t replies)
+read_spoken request (Ok n) replies = reading_spoken (reading request replies)
+read_spoken request (Err TooMany) replies = unclear_spoken
+read_spoken request (Err NotAllNumbers) replies = unclear_spoken
 
 pub pod_spoken : (meaning : Meaning) → PodFit meaning → Spoken (pod_text meaning)
 pod_spoken nothing f = absurd f

@@ -1,5 +1,6 @@
 -- Laws of how long an answer is: at most 4,095 bytes, so that a text of 4,096, as the programs lend it, has room for it and its line end.
 use Rattle.std.specs.Prelude.{ℕ, zero, suc, ◌*◌, ◌≤◌, ◌≡◌, refl, Bool, true, false, List, [], ◌∷◌, length, get_or, take, Err, None, Ok, Option, Result, Some, ⊤}
+use Rattle.readings.specs.declared.Outcome.{Outcome}
 use Rattle.firing.specs.declared.Pressed.{Pressed}
 use Rattle.firing.specs.declared.Seen.{Seen}
 use Rattle.std.proofs.Common.{arith, length-append, leb-true}
@@ -26,8 +27,8 @@ use Rattle.requests.specs.declared.Request.{Request}
 use Rattle.building.specs.RequestWords.{built_words}
 use Rattle.building.specs.Building.{building_verdict}
 use Rattle.pod_laws.specs.RequestCountLaws.{word_count_bound}
-use Rattle.pod_lines.specs.declared.Taken.{Taken}
-use Rattle.pod_lines.specs.declared.Taken.TheVariants.{Count, TooMany, NotAllNumbers}
+use Rattle.pod_lines.specs.declared.NotTaken.{NotTaken}
+use Rattle.pod_lines.specs.declared.NotTaken.TheVariants.{TooMany, NotAllNumbers}
 use Rattle.pod_lines.specs.Taking.{values, counted, taken}
 use Rattle.pod_lines.specs.PodLines.{Meaning, nothing, builds, reads, unclear}
 use Rattle.text.specs.Text.{flag_text}
@@ -145,7 +146,7 @@ outcome_length Complete = omega arith
 outcome_length BusError = omega arith
 outcome_length Illegal = omega arith
 
-pub exchanged_length : (x : Result (Outcome × ℕ) Ground) → length (exchanged_text x) ≤ 4095
+pub exchanged_length : (x : Result (Closing × ℕ) Ground) → length (exchanged_text x) ≤ 4095
 exchanged_length (Ok (outcome, packets)) = simp length-append (omega (arith, outcome_length outcome, decimal_length packets))
 exchanged_length (Err why) = omega (arith, refused_length why 0)
 
@@ -163,10 +164,10 @@ reading_length (Ok (Some outcome, used)) = simp length-append (omega (arith, out
 reading_length (Ok (None, used)) = simp length-append (omega (arith, decimal_length used))
 reading_length (Err why) = omega (arith, refused_length why 0)
 
-read_length : (request : Request) (t : Taken) (replies : List ℕ) → length (read_text request t replies) ≤ 4095
-read_length request (Count n) replies = reading_length (reading request replies)
-read_length request TooMany replies = omega arith
-read_length request NotAllNumbers replies = omega arith
+read_length : (request : Request) (t : Result ℕ NotTaken) (replies : List ℕ) → length (read_text request t replies) ≤ 4095
+read_length request (Ok n) replies = reading_length (reading request replies)
+read_length request (Err TooMany) replies = omega arith
+read_length request (Err NotAllNumbers) replies = omega arith
 
 pub pod_length : (meaning : Meaning) → length (pod_text meaning) ≤ 4095
 pod_length nothing = omega arith

@@ -1,5 +1,6 @@
 -- The answer to `packet X` is the text of the reply that the port gives and of no other; the same of a request in `talk`.
-use Rattle.std.specs.Prelude.{ℕ, ◌+◌, ◌^◌, ◌≤◌, ◌<◌, ◌≡◌, refl, true, cond, ◌&&◌, List, [], ◌∷◌, ◌++◌, eqb, leb, length, get_or, take, drop, Err, Ok, Result, Some, ⊤}
+use Rattle.std.specs.Prelude.{ℕ, ◌+◌, ◌^◌, ◌≤◌, ◌<◌, ◌≡◌, refl, true, cond, ◌&&◌, List, [], ◌∷◌, ◌++◌, eqb, leb, length, get_or, take, drop, Err, Ok, Result}
+use Rattle.std.specs.Prelude.{Some, ⊤}
 use Rattle.grounds.specs.declared.Ground.{Ground}
 use Rattle.std.proofs.Common.{ap, ◌∙◌, arith, leb-true}
 use Rattle.std.proofs.Math.Path.{sym}
@@ -97,15 +98,15 @@ unfolding is_gap lower
 packet_typed_unique word fits bench m meets = packet_line_unique bench m (number_typed (ascii "packet") word refl refl (omega arith) fits) refl meets
 
 -- and of a request in talk
-abbrev exchanged_of : List ℕ → Result (Outcome × ℕ) Ground
+abbrev exchanged_of : List ℕ → Result (Closing × ℕ) Ground
 exchanged_of text =
     cond (eqb (get_or text 0 0) 114) (Err (refusal_of text))
     (Ok (outcome_of text, decimal_value (drop (number_at text + 9) text)))
 
-same_ended : (o q : Closing) (m n : ℕ) → o ≡ q → m ≡ n → Ok (o, m) ≡ Ok (q, n)
+same_ended : (o q : Closing) (m n : ℕ) → o ≡ q → m ≡ n → ◌≡◌ {A = Result (Closing × ℕ) Ground} (Ok (o, m)) (Ok (q, n))
 same_ended o q m n e f = cc
 
-exchanged_back : (x : Result (Outcome × ℕ) Ground) → ExchangeHeld x → exchanged_of (exchanged_text x) ≡ x
+exchanged_back : (x : Result (Closing × ℕ) Ground) → ExchangeHeld x → exchanged_of (exchanged_text x) ≡ x
 exchanged_back (Ok (Value v, packets)) held =
     let back = exchange_back (Value v) packets held.0 held.1 in same_ended _ _ _ _ back.0 back.1
 exchanged_back (Ok (Complete, packets)) held =
@@ -116,14 +117,14 @@ exchanged_back (Ok (Illegal, packets)) held =
     let back = exchange_back Illegal packets held.0 held.1 in same_ended _ _ _ _ back.0 back.1
 exchanged_back (Err why) held = ap Err (refusal_back why 0)
 
-pub exchanged_unique : (x y : Result (Outcome × ℕ) Ground) → ExchangeHeld x → ExchangeHeld y → exchanged_text x ≡ exchanged_text y → x ≡ y
+pub exchanged_unique : (x y : Result (Closing × ℕ) Ground) → ExchangeHeld x → ExchangeHeld y → exchanged_text x ≡ exchanged_text y → x ≡ y
 exchanged_unique x y h k e = sym (exchanged_back x h) ∙ ap exchanged_of e ∙ exchanged_back y k
 
 module _ (request : Request) (bench : Bench) (m : List ℕ) {r : Returned} {after : List ℕ} where
   -- the state is one that the types allow, and so what is answered fits its digits
   pub exchange_said_unique : ExchangeMeets request (port_state bench (take bench.lent m)) r after → Typed (port_state bench (take bench.lent m))
       → (exchange_said request bench (take bench.lent m) ≡ exchanged_text r.answer)
-      × ((x : Result (Outcome × ℕ) Ground) → ExchangeHeld x → exchanged_text x ≡ exchange_said request bench (take bench.lent m) → x ≡ r.answer)
+      × ((x : Result (Closing × ℕ) Ground) → ExchangeHeld x → exchanged_text x ≡ exchange_said request bench (take bench.lent m) → x ≡ r.answer)
   exchange_said_unique meets typed =
       let answer = exchange_outcome_lem meets in
       let held : ExchangeHeld r.answer = rw answer (exchange_held request (port_state bench (take bench.lent m)) typed) in
@@ -135,7 +136,7 @@ module _ {line name : List ℕ} {n : ℕ} (request : Request) (bench : Bench) (m
   pub request_line_unique : OneNumber line name n → request_of_one name n ≡ Some request → ExchangeMeets request (port_state bench (take bench.lent m)) r after
       → Typed (port_state bench (take bench.lent m))
       → (told_text Talk line bench m ≡ exchanged_text r.answer)
-      × ((x : Result (Outcome × ℕ) Ground) → ExchangeHeld x → exchanged_text x ≡ told_text Talk line bench m → x ≡ r.answer)
+      × ((x : Result (Closing × ℕ) Ground) → ExchangeHeld x → exchanged_text x ≡ told_text Talk line bench m → x ≡ r.answer)
   unfolding heard heard_own said_to
   request_line_unique typed asked meets held =
       rw (not_common typed, request_heard typed request asked) (exchange_said_unique request bench m meets held)

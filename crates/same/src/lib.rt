@@ -2,38 +2,11 @@
 #![tactic(auto)]
 
 ghost use Rattle.std.specs.Prelude.{◌≡◌};
-ghost use Rattle.same.specs.SameList.{same};
+ghost use Rattle.std.specs.Cmp.Lexicographic.{pointwise};
 
-// To the byte: case matters here.
-pub fn is_same(word: &[u8], name: &[u8]) -> bool
-    ensures { result ≡ same word.now name.now }
+// To the last element: of bytes, case matters here.
+pub fn is_same<T: Eq>(word: &[T], name: &[T]) -> bool
+    ensures { result ≡ pointwise T.eq word.now name.now }
 {
-    if word.len() != name.len() {
-        return false;
-    }
-    let mut i = 0;
-    while i < word.len() {
-        if word[i] != name[i] {
-            return false;
-        }
-        i += 1;
-    }
-    true
-}
-
-// The same of words of 32 bits.
-pub fn is_same_list(word: &[u32], name: &[u32]) -> bool
-    ensures { result ≡ same word.now name.now }
-{
-    if word.len() != name.len() {
-        return false;
-    }
-    let mut i = 0;
-    while i < word.len() {
-        if word[i] != name[i] {
-            return false;
-        }
-        i += 1;
-    }
-    true
+    word == name
 }

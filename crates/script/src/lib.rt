@@ -18,9 +18,10 @@ fn put_gap(text: &mut [u8], at: usize, shown: bool) -> usize
     ensures { Puts text.old at (gap shown) text.new result }
 {
     if shown {
-        return text::put_text(text, at, b", ");
+        text::put_text(text, at, b", ")
+    } else {
+        at
     }
-    at
 }
 
 fn answer(line: &[u8], bench: Bench, memory: &mut [u8], text: &mut [u8]) -> Answered
@@ -35,9 +36,7 @@ fn prepare(line: &[u8], bench: Bench, memory: &mut [u8]) -> Bench
     ensures { left result memory.new ≡ left_by line.now (left bench memory.old) }
 {
     let mut text = [0u8; 4096];
-    let answered = answer(line, bench, memory, &mut text);
-    let after = answered.bench;
-    after
+    answer(line, bench, memory, &mut text).bench
 }
 
 // A line whose answer is shown behind those before it.
@@ -47,12 +46,10 @@ fn show(line: &[u8], gone: Gone, memory: &mut [u8], text: &mut [u8]) -> Gone
         (left_by line.now (left gone.bench memory.old))
         gone text.old result text.new memory.new }
 {
-    let bench = gone.bench;
     let at = put_gap(text, gone.end, gone.shown);
-    let answered = answer(line, bench, memory, &mut text[at..]);
-    let after = answered.bench;
+    let answered = answer(line, gone.bench, memory, &mut text[at..]);
     Gone {
-        bench: after,
+        bench: answered.bench,
         end: at + answered.end,
         shown: true,
     }
@@ -65,32 +62,29 @@ fn take_line(line: &[u8], gone: Gone, memory: &mut [u8], text: &mut [u8]) -> Gon
         (line_leaves line.now (left gone.bench memory.old))
         gone text.old result text.new memory.new }
 {
-    if line.len() == 0 {
+    let [mark, rest @ ..] = line else {
         return gone;
-    }
-    if line[0] == b'+' {
-        return show(&line[1..], gone, memory, text);
-    }
-    let bench = gone.bench;
-    let after = prepare(&line[1..], bench, memory);
-    Gone {
-        bench: after,
-        ..gone
+    };
+    if *mark == b'+' {
+        show(rest, gone, memory, text)
+    } else {
+        Gone {
+            bench: prepare(rest, gone.bench, memory),
+            ..gone
+        }
     }
 }
 
-// Where the line that begins at a place ends.
-fn line_end(script: &[u8], from: usize) -> usize
-    ensures { result ≡ from + line_length (drop from script.now) }
+// How many bytes the first line has.
+fn line_length(bytes: &[u8]) -> usize
+    ensures { result ≡ line_length bytes.now }
 {
-    let mut i = from;
-    while i < script.len() {
-        if script[i] == b'\n' {
+    for (i, byte) in bytes.iter().enumerate() {
+        if *byte == b'\n' {
             return i;
         }
-        i += 1;
     }
-    i
+    bytes.len()
 }
 
 // Each line of a script; what was shown stands at the front of the text.
@@ -100,13 +94,13 @@ fn take_lines(script: &[u8], bench: Bench, memory: &mut [u8], text: &mut [u8]) -
         (begun bench) text.old result text.new memory.new }
 {
     let mut gone = Gone {
-        bench: bench,
+        bench,
         end: 0,
         shown: false,
     };
     let mut from: usize = 0;
     while from < script.len() {
-        let end = line_end(script, from);
+        let end = from + line_length(&script[from..]);
         gone = take_line(&script[from..end], gone, memory, text);
         from = end + 1;
     }
@@ -127,22 +121,19 @@ pub fn check(
         (leaves (lines script.now) (left before.bench memory.old))
         before page.old result page.new memory.new }
 {
-    let bench = before.bench;
     let mut text = [0u8; 4096];
-    let gone = take_lines(script, bench, memory, &mut text);
-    let end = gone.end;
-    let after = gone.bench;
+    let gone = take_lines(script, before.bench, memory, &mut text);
     let judged = put_check(
         page,
         before.end,
         number,
         title,
         due,
-        &text[..end],
+        &text[..gone.end],
         before.bad,
     );
     Checked {
-        bench: after,
+        bench: gone.bench,
         end: judged.end,
         bad: judged.bad,
     }

@@ -12,21 +12,19 @@ use command::{Base, Command, Source};
 use plan::Plan;
 
 // The board and the place after an accepted packet.
-#[derive(Clone, Copy)]
+#[derive(Clone, Copy, Debug, PartialEq, Eq)]
 pub struct Next {
     pub board: Board,
     pub place: Place,
 }
 
+#[tactic(auto, unfolding(crate::specs::Step::reply_now))]
 pub fn reply_of(place: Place) -> u32
     ensures { result ≡ reply_now place }
 {
-    let phase = place.phase;
-    match phase {
-        Phase::Rest => place.next,
-        Phase::Due(_, _, _) => command::NOT_READY,
-        Phase::Waiting(_, _, _, _) => command::NOT_READY,
-        Phase::Upper(_) => place.next,
+    match place.phase {
+        Phase::Rest | Phase::Upper(_) => place.next,
+        Phase::Due(_, _, _) | Phase::Waiting(_, _, _, _) => command::NOT_READY,
     }
 }
 
@@ -34,18 +32,12 @@ fn chain_during(command: Command, chain: Chain) -> Chain
     ensures { result ≡ chain_during command chain }
 {
     match command {
-        Command::Unknown => Chain::Off,
-        Command::Nop => chain,
-        Command::Load(_, base) => match base {
-            Base::Address => Chain::Off,
-            Base::Pointer => chain,
-        },
-        Command::Store(_, base) => match base {
-            Base::Address => Chain::Off,
-            Base::Pointer => chain,
-        },
-        Command::Show(_) => Chain::Off,
-        Command::Change(_) => Chain::Off,
+        Command::Nop | Command::Load(_, Base::Pointer) | Command::Store(_, Base::Pointer) => chain,
+        Command::Unknown
+        | Command::Load(_, Base::Address)
+        | Command::Store(_, Base::Address)
+        | Command::Show(_)
+        | Command::Change(_) => Chain::Off,
     }
 }
 
@@ -53,21 +45,20 @@ fn chain_in(phase: Phase, chain: Chain) -> Chain
     ensures { result ≡ chain_in phase chain }
 {
     match phase {
-        Phase::Rest => chain,
-        Phase::Due(command, _, _) => chain_during(command, chain),
-        Phase::Waiting(command, _, _, _) => chain_during(command, chain),
-        Phase::Upper(_) => chain,
+        Phase::Rest | Phase::Upper(_) => chain,
+        Phase::Due(command, _, _) | Phase::Waiting(command, _, _, _) => {
+            chain_during(command, chain)
+        }
     }
 }
 
 pub fn hold(place: Place, phase: Phase) -> Place
     ensures { result ≡ holding place phase }
 {
-    let chain = place.chain;
     board::set_place(
         place,
         phase,
-        chain_in(phase, chain),
+        chain_in(phase, place.chain),
         place.pointer,
         command::NOT_READY,
     )
@@ -88,8 +79,13 @@ fn reject(place: Place) -> Place
 pub fn release(place: Place, low: u16) -> Place
     ensures { result ≡ released place low }
 {
-    let chain = place.chain;
-    board::set_place(place, Phase::Rest, chain, place.pointer, low as u32)
+    board::set_place(
+        place,
+        Phase::Rest,
+        place.chain,
+        place.pointer,
+        u32::from(low),
+    )
 }
 
 // What a packet leaves of the place where no command works.
@@ -108,22 +104,17 @@ pub fn settle_without_work(place: Place, plan: Plan) -> Place
 fn leaves_board(command: Command) -> bool
     ensures { result ≡ leaves_board command }
 {
-    match command {
-        Command::Unknown => true,
-        Command::Nop => true,
-        Command::Load(_, _) => true,
-        Command::Store(_, _) => true,
-        Command::Show(source) => match source {
-            Source::General(_) => true,
-            Source::Control => true,
-            Source::Csr => false,
-        },
-        Command::Change(_) => false,
-    }
+    !matches!(command, Command::Show(Source::Csr) | Command::Change(_))
 }
 
 // The board with this fault for its own.
-pub fn carry_out(board: Board, fault: Option<u32>, place: Place, memory: &mut [u8], plan: Plan) -> Next
+pub fn carry_out(
+    board: Board,
+    fault: Option<u32>,
+    place: Place,
+    memory: &mut [u8],
+    plan: Plan,
+) -> Next
     ensures { state_of result.board result.place memory.new ≡ left plan (state_of (with_fault board fault) place memory.old) }
 {
     match plan {
@@ -151,19 +142,18 @@ pub fn carry_out(board: Board, fault: Option<u32>, place: Place, memory: &mut [u
     }
 }
 
+#[tactic(auto, unfolding(crate::specs::Step::plan_for))]
 pub fn plan_for(board: Board, place: Place, word: u32) -> Plan
     ensures { result ≡ plan_for board place word }
 {
-    let phase = place.phase;
-    plan::make_plan(phase, board::standing_of(board, place), board.w, word)
+    plan::make_plan(place.phase, board::standing_of(board, place), board.w, word)
 }
 
+#[tactic(auto, unfolding(crate::specs::Step::stepped))]
 pub fn take_word(board: Board, place: Place, memory: &mut [u8], word: u32) -> Next
     ensures { state_of result.board result.place memory.new ≡ stepped (state_of board place memory.old) word }
 {
     let plan = plan_for(board, place, word);
-    let phase = place.phase;
-    let before = board.fault;
-    let fault = faults::after_word(phase, word, before);
+    let fault = faults::after_word(place.phase, word, board.fault);
     carry_out(board, fault, place, memory, plan)
 }

@@ -40,7 +40,7 @@ step_read trace cursor = step_from trace cursor.start (length trace - cursor.cyc
 
 -- a refused start is handed out at every step, and the walk stays
 abbrev pub step_by : List ℕ → Cursor → Result ℕ Refused → Step
-step_by trace cursor (Err r) = record { cursor = cursor; handed = Err (record { ground = r.ground; cycle = r.cycle }) }
+step_by trace cursor (Err r) = record { cursor = cursor; handed = Err (record { why = r.why; cycle = r.cycle }) }
 step_by trace cursor (Ok n) = step_read trace cursor
 
 -- one step of the walk
@@ -56,4 +56,4 @@ pub data ToldStep : Type 0 where
 abbrev pub told_handed : Result (Option Item) Refused → ToldStep
 told_handed (Ok (Some x)) = item x.cycle x.code x.value
 told_handed (Ok None) = end
-told_handed (Err r) = refusal (number r.ground) r.cycle
+told_handed (Err r) = refusal (number r.why) r.cycle

@@ -1,5 +1,5 @@
 -- Laws of one step: what the cycle at which the walk stands makes of it, and that an item is of one of the trace's cycles.
-use Rattle.std.specs.Prelude.{◌≡◌, refl, ℕ, zero, suc, ◌+◌, ◌-◌, ◌≤◌, ◌<◌, Bool, true, false, cond, List, Err, None, Ok, Result, Some}
+use Rattle.std.specs.Prelude.{◌≡◌, refl, ℕ, zero, suc, ◌+◌, ◌-◌, ◌≤◌, ◌<◌, Bool, true, false, cond, List, Err, None, Ok, Result, Some, Option}
 use Rattle.trace.specs.declared.Refused.{Refused}
 use Rattle.std.proofs.Common.{ap}
 use native.Mathlib.Omega.{arith}
@@ -39,8 +39,8 @@ module _ (trace : List ℕ) (start : Result ℕ Refused) (i : ℕ) (c : Carried)
       none_left = omega arith
 
 -- a step goes by how the start was judged
-pub step_refused : (trace : List ℕ) (cursor : Cursor) (why : Ground) (cycle : ℕ) → cursor.start ≡ Err (record { ground = why; cycle = cycle })
-    → step_of trace cursor ≡ record { cursor = cursor; handed = Err (record { ground = why; cycle = cycle }) }
+pub step_refused : (trace : List ℕ) (cursor : Cursor) (why : Ground) (cycle : ℕ) → cursor.start ≡ Err (record { why = why; cycle = cycle })
+    → step_of trace cursor ≡ record { cursor = cursor; handed = Err (record { why = why; cycle = cycle }) }
 unfolding step_of
 step_refused trace cursor why cycle e = ap (step_by trace cursor) e
 
@@ -59,7 +59,7 @@ from_within trace start (suc n) i c past x e f =
     on : Step
     on = step_from trace start n (i + 1) (after c (pst trace i)) false
 
-    at_i : (y : Item) → y.cycle ≡ i → Ok (Some y) ≡ Ok (Some x) → x.cycle < length trace
+    at_i : (y : Item) → y.cycle ≡ i → ◌≡◌ {A = Result (Option Item) Refused} (Ok (Some y)) (Ok (Some x)) → x.cycle < length trace
     at_i y g h = let same : y ≡ x = cc in let z : x.cycle ≡ i = cc in omega arith
 
     by_test : (a b : Bool) → (on.handed ≡ Ok (Some x) → x.cycle < length trace)
@@ -76,7 +76,7 @@ handed_within trace cursor x e = by_start cursor.start refl
   where
     by_start : (l : Result ℕ Refused) → cursor.start ≡ l → x.cycle < length trace
     by_start (Err r) f =
-        let h = step_refused trace cursor r.ground r.cycle f in
+        let h = step_refused trace cursor r.why r.cycle f in
         let z : ◌≡◌ {A = ℕ} 0 1 = cc in
         absurd (omega arith)
     by_start (Ok n) f =

@@ -23,9 +23,9 @@ told_handed_unique (Ok (Some x)) (Ok (Some y)) e =
     let v : x.value ≡ y.value = cc in
     rw (i, c, v)
 told_handed_unique (Err r) (Err s) e =
-    let same : r.ground ≡ s.ground = same_number_same_ground r.ground s.ground (cc) in
+    let same : r.why ≡ s.why = same_number_same_ground r.why s.why (cc) in
     let cycle : r.cycle ≡ s.cycle = cc in
-    cc
+    rw (same, cycle)
 told_handed_unique (Ok None) (Ok None) e = refl
 told_handed_unique (Ok (Some x)) (Ok None) e = let z : ◌≡◌ {A = ℕ} 0 1 = cc in absurd (omega arith)
 told_handed_unique (Ok (Some x)) (Err r) e = let z : ◌≡◌ {A = ℕ} 0 1 = cc in absurd (omega arith)

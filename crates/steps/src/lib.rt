@@ -5,8 +5,8 @@ ghost use Rattle.std.specs.Prelude.{◌≡◌, ◌+◌, ◌<◌, true, false};
 ghost use Rattle.cycle.specs.CycleItems.{of_value, of_cycle};
 ghost use Rattle.steps.specs.WalkStep.{cursor_at, value_next, handing, step_read, step_of, StartMeets};
 
-use trace::Refused;
 use cycle::{Carried, Item};
+use trace::Refused;
 
 // Where a walk stands: how its start was judged, the next cycle and what it finds under way, and
 // whether that cycle's value is past.
@@ -28,12 +28,10 @@ pub struct Step {
 pub fn start_at(trace: &[u8]) -> Cursor
     ensures { StartMeets trace.now result }
 {
-    let start = trace::judge_trace(trace);
-    let carried = cycle::nothing_carried();
     Cursor {
-        start,
+        start: trace::judge_trace(trace),
         cycle: 0,
-        carried,
+        carried: cycle::nothing_carried(),
         past: false,
     }
 }
@@ -41,22 +39,13 @@ pub fn start_at(trace: &[u8]) -> Cursor
 fn is_value_next(due: u8, past: bool) -> bool
     ensures { result ≡ value_next due past }
 {
-    if past {
-        return false;
-    }
-    due == 1
+    !past && due == 1
 }
 
 // A value is handed out, and the walk stays at its cycle for the cycle's own item.
 fn hand_value(trace: &[u8], start: Result<usize, Refused>, i: usize, carried: Carried) -> Step
     ensures { result ≡ handing (cursor_at start i carried true) (of_value trace.now i carried.marker) }
 {
-    let value = cycle::read_value(trace, i, carried.marker);
-    let item = Item {
-        cycle: i,
-        code: carried.marker,
-        value,
-    };
     let cursor = Cursor {
         start,
         cycle: i,
@@ -65,7 +54,7 @@ fn hand_value(trace: &[u8], start: Result<usize, Refused>, i: usize, carried: Ca
     };
     Step {
         cursor,
-        handed: Ok(Some(item)),
+        handed: Ok(Some(Item::of_value(trace, i, carried.marker))),
     }
 }
 
@@ -74,11 +63,6 @@ fn hand_own(start: Result<usize, Refused>, i: usize, next: Carried, pst: u8) -> 
     requires { i < 18446744073709551615 }
     ensures { result ≡ handing (cursor_at start (i + 1) next false) (of_cycle i pst) }
 {
-    let item = Item {
-        cycle: i,
-        code: pst,
-        value: 0,
-    };
     let cursor = Cursor {
         start,
         cycle: i + 1,
@@ -87,7 +71,7 @@ fn hand_own(start: Result<usize, Refused>, i: usize, next: Carried, pst: u8) -> 
     };
     Step {
         cursor,
-        handed: Ok(Some(item)),
+        handed: Ok(Some(Item::of_cycle(i, pst))),
     }
 }
 
@@ -98,8 +82,7 @@ fn find_item(trace: &[u8], cursor: Cursor) -> Step
     let start = cursor.start;
     let mut carried = cursor.carried;
     let mut past = cursor.past;
-    let mut i = cursor.cycle;
-    while i < trace.len() {
+    for i in cursor.cycle..trace.len() {
         if is_value_next(carried.due, past) {
             return hand_value(trace, start, i, carried);
         }
@@ -110,13 +93,12 @@ fn find_item(trace: &[u8], cursor: Cursor) -> Step
         }
         carried = next;
         past = false;
-        i += 1;
     }
     let cursor = Cursor {
-        start,
-        cycle: i,
+        cycle: cursor.cycle.max(trace.len()),
         carried,
         past,
+        ..cursor
     };
     Step {
         cursor,
@@ -128,11 +110,10 @@ fn find_item(trace: &[u8], cursor: Cursor) -> Step
 pub fn step_at(trace: &[u8], cursor: Cursor) -> Step
     ensures { result ≡ step_of trace.now cursor }
 {
-    let start = cursor.start;
-    match start {
-        Err(Refused { ground, cycle }) => Step {
+    match cursor.start {
+        Err(refused) => Step {
             cursor,
-            handed: Err(Refused { ground, cycle }),
+            handed: Err(refused),
         },
         Ok(_) => find_item(trace, cursor),
     }

@@ -3,6 +3,7 @@ use Rattle.std.specs.Prelude.{◌≡◌, refl, ℕ, ◌+◌, ◌*◌, ◌≤◌,
 use Rattle.std.proofs.Common.{ap, sym, ◌∙◌, append_assoc, append-nil, add-zero, arith, length-append, eq-eqb, ne_eqb, eqb-true}
 use Rattle.cycle.specs.declared.Carried.{Carried}
 use Rattle.cycle.specs.declared.Item.{Item}
+use Rattle.summary.specs.declared.noting.Noted.{Noted}
 use Rattle.cycle.specs.Cycle.{pst, carried_into}
 use Rattle.cycle.specs.CycleItems.{of_value, value_item, own_item, items_at}
 use Rattle.cycle.specs.CycleCountLaws.{at_most_one}
@@ -11,18 +12,15 @@ use Rattle.trace.specs.ItemLaws.{items_more, items_before_le}
 use Rattle.tally.specs.Tally.{one, count_of, first_of, last_of, starts_of, each, per_code}
 use Rattle.tally.proofs.TallyLaws.{of_code, row_set, count_snoc, first_snoc, last_snoc, no_first, count_le_length}
 use Rattle.tally.proofs.StartsLaws.{starts_are_four}
-use Rattle.summary.specs.TallyMirror.{Notes, Tallied}
+use Rattle.summary.specs.TallyMirror.{Notes, Tallied, with_item}
 
 first_or_none : (xs : List Item) (code : ℕ) (b : Bool) → eqb (count_of xs code) 0 ≡ b → cond b 0 (first_of xs code) ≡ first_of xs code
 first_or_none xs code true e = sym (no_first xs code (eqb-true (count_of xs code) 0 e))
 first_or_none xs code false e = refl
 
--- noting an item: one more of its code, its cycle the first where there was none, and the last
-pub noted : (xs : List Item) (x : Item) (counts firsts lasts : List ℕ) → x.code < 16 → Tallied xs counts firsts lasts
-    → Tallied (xs ++ (x ∷ [])) (set counts x.code (get_or counts x.code 0 + 1))
-    (set firsts x.code (cond (eqb (get_or counts x.code 0) 0) x.cycle (get_or firsts x.code 0)))
-    (set lasts x.code x.cycle)
-noted xs x counts firsts lasts h t =
+-- noting an item makes the tally of the items before that of this too
+pub noted : (xs : List Item) (x : Item) (n : Noted) → x.code < 16 → Tallied xs n → Tallied (xs ++ (x ∷ [])) (with_item n x.code x.cycle)
+noted xs x n h t =
     record {
       count = rw (t.count, of_code (count_of xs) k h)
           (ap (set (per_code (count_of xs)) k) (sym (count_snoc xs x k ∙ one_more))
@@ -65,23 +63,20 @@ noted xs x counts firsts lasts h t =
     same_last other d = rw (foreign other d)
 
 -- what the three stores of an item's numbers come to
-pub note_one : (x : Item) {counts firsts lasts counts' firsts' lasts' : List ℕ} → x.code < 16
-    → (counts' ≡ set counts x.code (get_or counts x.code 0 + 1))
-    × (firsts' ≡ set firsts x.code (cond (eqb (get_or counts x.code 0) 0) x.cycle (get_or firsts x.code 0))) × (lasts' ≡ set lasts x.code x.cycle)
-    → Notes (x ∷ []) counts firsts lasts counts' firsts' lasts'
-note_one x {counts} {firsts} {lasts} h e before t = rw (e.0, e.1, e.2) (noted before x counts firsts lasts h t)
+pub note_one : (x : Item) {t t' : Noted} → x.code < 16 → t' ≡ with_item t x.code x.cycle → Notes (x ∷ []) t t'
+note_one x {t} h e before told = rw e (noted before x t h told)
 
-pub note_none : {counts firsts lasts : List ℕ} → Notes [] counts firsts lasts counts firsts lasts
+pub note_none : {t : Noted} → Notes [] t t
 note_none before t = rw (append-nil before) t
 
-pub nothing_noted : Tallied [] (replicate 16 0) (replicate 16 0) (replicate 16 0)
+pub nothing_noted : Tallied [] (record { counts = replicate 16 0; firsts = replicate 16 0; lasts = replicate 16 0 })
 unfolding each count_of first_of last_of
 nothing_noted = record { count = refl; first = refl; last = refl }
 
 -- a cycle's value, then its own item: the items of one cycle more
-pub cycle_noted : (trace : List ℕ) (i : ℕ) (c : Carried) {counts firsts lasts : List ℕ} → c ≡ carried_into trace i
-    → Tallied ((items_before trace i ++ value_item trace i c) ++ own_item i c.run (pst trace i)) counts firsts lasts
-    → Tallied (items_before trace (i + 1)) counts firsts lasts
+pub cycle_noted : (trace : List ℕ) (i : ℕ) (c : Carried) {n : Noted} → c ≡ carried_into trace i
+    → Tallied ((items_before trace i ++ value_item trace i c) ++ own_item i c.run (pst trace i)) n
+    → Tallied (items_before trace (i + 1)) n
 unfolding items_at
 cycle_noted trace i c e t = rw (items_more trace i c e, ← append_assoc (items_before trace i) (value_item trace i c) (own_item i c.run (pst trace i))) t
 
@@ -95,15 +90,14 @@ items_with_value trace i c =
     )
 
 -- a tally of so few items has room for one more
-pub room_for_one : (xs : List Item) {counts firsts lasts : List ℕ} (code : ℕ) → code < 16 → length xs ≤ 131072 → Tallied xs counts firsts lasts
-    → get_or counts code 0 < 4294967295
+pub room_for_one : (xs : List Item) {n : Noted} (code : ℕ) → code < 16 → length xs ≤ 131072 → Tallied xs n → get_or n.counts code 0 < 4294967295
 room_for_one xs code h k t = rw (t.count, of_code (count_of xs) code h) (omega (arith, count_le_length xs code))
 
 -- the starts are the numbers of four codes
-pub starts_tallied : {xs : List Item} {counts firsts lasts : List ℕ} → Tallied xs counts firsts lasts
+pub starts_tallied : (xs : List Item) {counts : List ℕ} → counts ≡ per_code (count_of xs)
     → get_or counts 1 0 + get_or counts 4 0 + get_or counts 5 0 + get_or counts 7 0 ≡ starts_of xs
-starts_tallied {xs} t =
-    rw (t.count, starts_are_four xs)
+starts_tallied xs e =
+    rw (e, starts_are_four xs)
     (omega (
       arith,
       of_code (count_of xs) 1 (omega arith),

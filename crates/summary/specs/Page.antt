@@ -26,7 +26,7 @@ page_of trace n =
 abbrev pub blank : Ground → ℕ → Page
 blank why cycle =
     record {
-      judged = Err (record { ground = why; cycle = cycle });
+      judged = Err (record { why = why; cycle = cycle });
       cycles = 0;
       starts = 0;
       rate = None;
@@ -38,7 +38,7 @@ blank why cycle =
 -- the page, by how its trace was judged
 abbrev pub page_by : List ℕ → Result ℕ Refused → Page
 page_by trace (Ok n) = page_of trace n
-page_by trace (Err r) = blank r.ground r.cycle
+page_by trace (Err r) = blank r.why r.cycle
 
 -- "Refusals: the reader's own, then 11 for the index buffer.", a word an entry; else the items are counted
 unfoldable pub page_verdict : List ℕ → ℕ → Told

@@ -8,6 +8,7 @@ use Rattle.grounds.specs.declared.Ground.TheVariants.{TraceTooLong}
 use Rattle.grounds.specs.Grounds.{number}
 use Rattle.laws.specs.StoreLaws.{length_stored}
 use Rattle.cycle.specs.declared.Carried.{Carried}
+use Rattle.summary.specs.declared.noting.Noted.{Noted}
 use Rattle.cycle.specs.Cycle.{nothing}
 use Rattle.trace.specs.Items.{items}
 use Rattle.trace.specs.ItemLaws.{items_before_le}
@@ -38,26 +39,24 @@ copied_next to from k h g =
     ∙ ap (paste to 0 from) (sym (add-one k))
 
 -- no count of a trace is large
-count_small : (trace : List ℕ) {counts firsts lasts : List ℕ} (code : ℕ) → code < 16 → length trace ≤ 65536 → Tallied (items trace) counts firsts lasts
-    → get_or counts code 0 ≤ 131072
+count_small : (trace : List ℕ) {n : Noted} (code : ℕ) → code < 16 → length trace ≤ 65536 → Tallied (items trace) n → get_or n.counts code 0 ≤ 131072
 unfolding items
 count_small trace code h k t =
     rw (t.count, of_code (count_of (items trace)) code h) (omega (arith, count_le_length (items trace) code, items_before_le trace (length trace)))
 
 -- what is known of a trace that the pass could read
-pub record PassRead (trace before : List ℕ) (n : ℕ) (counts firsts lasts entries : List ℕ) : Type 0 where
+pub record PassRead (trace before : List ℕ) (n : ℕ) (t : Noted) (entries : List ℕ) : Type 0 where
   pub reads : reading trace ≡ counted n
   pub short : length trace ≤ 65536
-  pub tally : Tallied (items trace) counts firsts lasts
+  pub tally : Tallied (items trace) t
   pub index : entries ≡ sets before 0 (index_words trace)
   pub room : length entries ≡ length before
   -- the counts of the starts are small
-  pub small : (get_or counts 1 0 ≤ 131072) × (get_or counts 4 0 ≤ 131072) × (get_or counts 5 0 ≤ 131072) × (get_or counts 7 0 ≤ 131072)
+  pub small : (get_or t.counts 1 0 ≤ 131072) × (get_or t.counts 4 0 ≤ 131072) × (get_or t.counts 5 0 ≤ 131072) × (get_or t.counts 7 0 ≤ 131072)
 
-pub pass_read : {trace before : List ℕ} {r : Result ℕ Refused} {counts firsts lasts entries : List ℕ}
-    → (told_listing r ≡ reading trace) × ReadTallied trace before r counts firsts lasts entries → {n : ℕ} → r ≡ Ok n
-    → PassRead trace before n counts firsts lasts entries
-pass_read {trace} {before} {r} {counts} {firsts} {lasts} {entries} t {n} e =
+pub pass_read : {trace before : List ℕ} {r : Result ℕ Refused} {noted : Noted} {entries : List ℕ}
+    → (told_listing r ≡ reading trace) × ReadTallied trace before r noted entries → {n : ℕ} → r ≡ Ok n → PassRead trace before n noted entries
+pass_read {trace} {before} {r} {noted} {entries} t {n} e =
     record {
       reads = reads;
       short = short;
@@ -73,8 +72,8 @@ pass_read {trace} {before} {r} {counts} {firsts} {lasts} {entries} t {n} e =
     short : length trace ≤ 65536
     short = whole_short trace n reads
 
-    told : ReadTallied trace before (Ok n) counts firsts lasts entries
+    told : ReadTallied trace before (Ok n) noted entries
     told = rw e at t.1
 
-    small : (code : ℕ) → code < 16 → get_or counts code 0 ≤ 131072
+    small : (code : ℕ) → code < 16 → get_or noted.counts code 0 ≤ 131072
     small code h = count_small trace code h short told.0

@@ -3,9 +3,10 @@ ghost use Rattle.std.specs.Prelude.{◌≡◌, ◌≤◌, length};
 ghost use Rattle.std.proofs.Math.Seq.{paste};
 ghost use Rattle.summary.specs.Page.{blank, PageMeets};
 
-use trace::Refused;
 use crate::noting;
+use crate::noting::Noted;
 use grounds::Ground;
+use trace::Refused;
 
 // How the trace was judged, with the number of its items; its cycles, instruction starts and rate; and of each code how many items,
 // the first cycle and the last (0 where it has none). All numbers are 0 where the trace was refused.
@@ -24,7 +25,7 @@ fn refuse(why: Ground, cycle: usize) -> Page
     ensures { result ≡ blank why cycle }
 {
     Page {
-        judged: Err(Refused { ground: why, cycle }),
+        judged: Err(Refused { why, cycle }),
         cycles: 0,
         starts: 0,
         rate: None,
@@ -39,11 +40,7 @@ fn copy_entries(index: &mut [u32], entries: &[u32], n: usize)
     requires { (n ≤ length index.old) × (n ≤ length entries.now) }
     ensures { index.new ≡ paste index.old 0 entries.now n }
 {
-    let mut k = 0usize;
-    while k < n {
-        index[k] = entries[k];
-        k += 1;
-    }
+    index[..n].copy_from_slice(&entries[..n]);
 }
 
 // The page of a trace; its index then stands at the front of the buffer, one word an entry. The trace is read once, so what is noted
@@ -51,27 +48,29 @@ fn copy_entries(index: &mut [u32], entries: &[u32], n: usize)
 pub fn make_page(trace: &[u8], index: &mut [u32]) -> Page
     ensures { PageMeets trace.now index.old result index.new }
 {
-    let mut counts = [0u32; 16];
-    let mut firsts = [0u32; 16];
-    let mut lasts = [0u32; 16];
-    let mut entries = [0u32; 256];
-    let judged = noting::tally_trace(trace, &mut counts, &mut firsts, &mut lasts, &mut entries);
+    let mut noted = Noted::new();
+    let mut entries = [0; 256];
+    let judged = noting::tally_trace(trace, &mut noted, &mut entries);
     match judged {
-        Err(Refused { ground, cycle }) => refuse(ground, cycle),
-        Ok(items) => {
+        Err(refused) => refuse(refused.why, refused.cycle),
+        Ok(_) => {
             let needed = (trace.len() + 255) / 256;
             if index.len() < needed {
                 return refuse(Ground::BufferTooShort, 0);
             }
             copy_entries(index, &entries, needed);
             let cycles = trace.len() as u32;
+            let Noted {
+                counts,
+                firsts,
+                lasts,
+            } = noted;
             let starts = counts[1] + counts[4] + counts[5] + counts[7];
-            let rate = rate::rate_of(cycles, starts);
             Page {
-                judged: Ok(items),
+                judged,
                 cycles,
                 starts,
-                rate,
+                rate: rate::rate_of(cycles, starts),
                 counts,
                 firsts,
                 lasts,

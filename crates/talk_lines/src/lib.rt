@@ -18,31 +18,21 @@ pub enum TalkLine {
 fn leave_out_packet(line: BoardLine) -> BoardLine
     ensures { result ≡ without_packet line }
 {
-    match line {
-        BoardLine::Nothing => line,
-        BoardLine::Make(_) => line,
-        BoardLine::Memory(_) => line,
-        BoardLine::Bytes(_, _, _) => line,
-        BoardLine::Packet(_) => BoardLine::Unclear,
-        BoardLine::Event(_, _) => line,
-        BoardLine::EventWithAccess(_, _, _, _, _) => line,
-        BoardLine::Breakpoint => line,
-        BoardLine::Peek(_, _) => line,
-        BoardLine::State => line,
-        BoardLine::Unclear => line,
+    if let BoardLine::Packet(_) = line {
+        BoardLine::Unclear
+    } else {
+        line
     }
 }
 
 fn ask_or(asked: Option<Request>, line: BoardLine) -> TalkLine
     ensures { result ≡ asked_or asked line }
 {
-    match asked {
-        Some(request) => TalkLine::Ask(request),
-        None => TalkLine::Board(line),
-    }
+    asked.map_or(TalkLine::Board(line), |request| TalkLine::Ask(request))
 }
 
 // A request alone on its line, or else a line of `stand_in`.
+#[tactic(auto, unfolding(crate::specs::TalkLines::either_line))]
 pub fn read_either_line(line: &[u8]) -> TalkLine
     ensures { result ≡ either_line line.now }
 {

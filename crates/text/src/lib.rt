@@ -13,19 +13,18 @@ pub fn put_byte(text: &mut [u8], at: usize, byte: u8) -> usize
 {
     if at < text.len() {
         text[at] = byte;
-        return at + 1;
+        at + 1
+    } else {
+        at
     }
-    at
 }
 
 pub fn put_text(text: &mut [u8], at: usize, part: &[u8]) -> usize
     ensures { Puts text.old at part.now text.new result }
 {
     let mut to = at;
-    let mut i: usize = 0;
-    while i < part.len() {
-        to = put_byte(text, to, part[i]);
-        i += 1;
+    for byte in part {
+        to = put_byte(text, to, *byte);
     }
     to
 }
@@ -33,10 +32,7 @@ pub fn put_text(text: &mut [u8], at: usize, part: &[u8]) -> usize
 pub fn put_flag(text: &mut [u8], at: usize, flag: bool) -> usize
     ensures { Puts text.old at (flag_text flag) text.new result }
 {
-    if flag {
-        return put_byte(text, at, b'1');
-    }
-    put_byte(text, at, b'0')
+    put_byte(text, at, if flag { b'1' } else { b'0' })
 }
 
 fn digit_of(value: usize) -> u8
@@ -45,9 +41,10 @@ fn digit_of(value: usize) -> u8
 {
     let low = value as u8;
     if low < 10 {
-        return low + b'0';
+        low + b'0'
+    } else {
+        low - 10 + b'A'
     }
-    low - 10 + b'A'
 }
 
 // A value without its lowest so many digits.
@@ -56,10 +53,8 @@ fn shifted(value: usize, base: usize, digits: usize) -> usize
     ensures { result ≡ value / base ^ digits }
 {
     let mut rest = value;
-    let mut left = digits;
-    while 0 < left {
-        left -= 1;
-        rest = rest / base;
+    for _ in 0..digits {
+        rest /= base;
     }
     rest
 }
@@ -69,14 +64,12 @@ fn width_of(value: usize, base: usize) -> usize
     requires { 0 < base }
     ensures { result ≡ width base value }
 {
-    let mut digits: usize = 1;
     let mut rest = value / base;
-    while digits < 20 {
+    for digits in 1..20 {
         if rest == 0 {
             return digits;
         }
-        rest = rest / base;
-        digits += 1;
+        rest /= base;
     }
     20
 }
@@ -87,9 +80,7 @@ fn put_digits(text: &mut [u8], at: usize, value: usize, base: usize, digits: usi
     ensures { Puts text.old at (digits_text base digits value) text.new result }
 {
     let mut to = at;
-    let mut left = digits;
-    while 0 < left {
-        left -= 1;
+    for left in (0..digits).rev() {
         to = put_byte(text, to, digit_of(shifted(value, base, left) % base));
     }
     to

@@ -1,5 +1,6 @@
 -- Laws of the answers' text: what was told is read back from it.
-use Rattle.std.specs.Prelude.{ℕ, ◌+◌, ◌-◌, ◌*◌, ◌/◌, ◌%◌, ◌^◌, ◌<◌, ◌≡◌, Bool, cond, List, ◌++◌, eqb, ltb, get_or, take, drop, Err, None, Ok, Option, Result, Some}
+use Rattle.std.specs.Prelude.{ℕ, ◌+◌, ◌-◌, ◌*◌, ◌/◌, ◌%◌, ◌^◌, ◌<◌, ◌≡◌, Bool, cond, List, ◌++◌, eqb, ltb, get_or, take, drop, Err, None, Ok, Option, Result}
+use Rattle.std.specs.Prelude.{Some}
 use Rattle.firing.specs.declared.Pressed.{Pressed}
 use Rattle.std.proofs.Math.Path.{refl}
 use Rattle.std.proofs.Common.{ap, arith, mod-lt, ne_eqb}

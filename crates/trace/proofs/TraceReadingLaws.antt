@@ -1,6 +1,7 @@
 -- Laws of the judgement: the cycles one after the other, and that it is the same with and without a buffer.
-use Rattle.std.specs.Prelude.{◌≡◌, refl, ℕ, zero, suc, ◌+◌, ◌-◌, ◌≤◌, ◌<◌, Bool, true, false, cond, List, ltb, eqb, length}
+use Rattle.std.specs.Prelude.{◌≡◌, refl, ℕ, zero, suc, ◌+◌, ◌-◌, ◌≤◌, ◌<◌, Bool, true, false, cond, List, ltb, eqb, length, Result, Ok, Err}
 use Rattle.std.proofs.Common.{sym, ◌∙◌, arith, lt-ltb, le-ltb, ltb-false}
+use Rattle.grounds.specs.declared.Ground.{Ground}
 use Rattle.grounds.specs.declared.Ground.TheVariants.{ReservedPst, MarkerTooSoon, TraceCutShort, BufferTooShort}
 use Rattle.grounds.specs.Grounds.{number}
 use Rattle.cycle.specs.declared.Carried.{Carried}
@@ -8,7 +9,8 @@ use Rattle.cycle.specs.Cycle.{pst, reserved, too_soon, nothing, after}
 use Rattle.trace.specs.Items.{items, items_to_end}
 use Rattle.laws.specs.StoreLaws.{one_left}
 use Rattle.trace.specs.ItemsFromLaws.{items_whole}
-use Rattle.trace.specs.TraceReading.{Told, refusal, counted, too_long, earliest, ends_inside, too_short, judged_from, judged, reading, reading_from}
+use Rattle.trace.specs.TraceReading.{Told, refusal, counted, cycle_judged, too_long, earliest, ends_inside, too_short, judged_from, judged, reading}
+use Rattle.trace.specs.TraceReading.{reading_from}
 
 -- the cycles from cycle i on, judged by cycle i
 module _ (trace : List ℕ) (i : ℕ) (c : Carried) (otherwise : Carried → Told) where
@@ -26,6 +28,42 @@ module _ (trace : List ℕ) (i : ℕ) (c : Carried) (otherwise : Carried → Tol
           → earliest trace i c (length trace - i) otherwise ≡ earliest trace (i + 1) (after c (pst trace i)) (length trace - (i + 1)) otherwise
       unfolding earliest
       earliest_passes s = rw (one_left (length trace) i h, r, s)
+
+  -- the same of the cycle's whole judgement: it refuses the trace there, or lets the cycles after it be judged
+  module _ (h : i < length trace) where
+    pub earliest_refused : {why : Ground} → cycle_judged c.due (pst trace i) ≡ Err why
+        → earliest trace i c (length trace - i) otherwise ≡ refusal (number why) i
+    unfolding cycle_judged
+    earliest_refused {why} e = by_reserved (reserved (pst trace i)) refl e
+      where
+        by_too_soon : reserved (pst trace i) ≡ false → (t : Bool) → too_soon c.due (pst trace i) ≡ t
+            → ◌≡◌ {A = Result Unit Ground} (cond t (Err MarkerTooSoon) (Ok tt)) (Err why)
+            → earliest trace i c (length trace - i) otherwise ≡ refusal (number why) i
+        by_too_soon r true s e = let same : ◌≡◌ {A = Ground} MarkerTooSoon why = cc in rw (← same) (earliest_too_soon h r s)
+        by_too_soon r false s e = absurd (cc)
+
+        by_reserved : (b : Bool) → reserved (pst trace i) ≡ b
+            → ◌≡◌ {A = Result Unit Ground} (cond b (Err ReservedPst) (cond (too_soon c.due (pst trace i)) (Err MarkerTooSoon) (Ok tt))) (Err why)
+            → earliest trace i c (length trace - i) otherwise ≡ refusal (number why) i
+        by_reserved true r e = let same : ◌≡◌ {A = Ground} ReservedPst why = cc in rw (← same) (earliest_reserved h r)
+        by_reserved false r e = by_too_soon r (too_soon c.due (pst trace i)) refl e
+
+    pub earliest_goes_on : {u : Unit} → cycle_judged c.due (pst trace i) ≡ Ok u
+        → earliest trace i c (length trace - i) otherwise ≡ earliest trace (i + 1) (after c (pst trace i)) (length trace - (i + 1)) otherwise
+    unfolding cycle_judged
+    earliest_goes_on {u} e = by_reserved (reserved (pst trace i)) refl e
+      where
+        by_too_soon : reserved (pst trace i) ≡ false → (t : Bool) → too_soon c.due (pst trace i) ≡ t
+            → ◌≡◌ {A = Result Unit Ground} (cond t (Err MarkerTooSoon) (Ok tt)) (Ok u)
+            → earliest trace i c (length trace - i) otherwise ≡ earliest trace (i + 1) (after c (pst trace i)) (length trace - (i + 1)) otherwise
+        by_too_soon r true s e = absurd (cc)
+        by_too_soon r false s e = earliest_passes h r s
+
+        by_reserved : (b : Bool) → reserved (pst trace i) ≡ b
+            → ◌≡◌ {A = Result Unit Ground} (cond b (Err ReservedPst) (cond (too_soon c.due (pst trace i)) (Err MarkerTooSoon) (Ok tt))) (Ok u)
+            → earliest trace i c (length trace - i) otherwise ≡ earliest trace (i + 1) (after c (pst trace i)) (length trace - (i + 1)) otherwise
+        by_reserved true r e = absurd (cc)
+        by_reserved false r e = by_too_soon r (too_soon c.due (pst trace i)) refl e
 
 -- no cycle left
 pub earliest_ends : (trace : List ℕ) (i : ℕ) (c : Carried) (t : Told) → length trace ≤ i

@@ -1,6 +1,7 @@
 -- Refusals 7 to 11 (01): how a trace is judged, as a whole or from one of its cycles on.
-use Rattle.std.specs.Prelude.{ℕ, zero, suc, ◌+◌, ◌-◌, cond, List, ltb, eqb, length, Err, Ok, Result}
+use Rattle.std.specs.Prelude.{ℕ, zero, suc, ◌+◌, ◌-◌, cond, List, ltb, eqb, length, Result, Ok, Err}
 use Rattle.trace.specs.declared.Refused.{Refused}
+use Rattle.grounds.specs.declared.Ground.{Ground}
 use Rattle.grounds.specs.declared.Ground.TheVariants.{TraceTooLong, ReservedPst, MarkerTooSoon, TraceCutShort, BufferTooShort}
 use Rattle.grounds.specs.Grounds.{number}
 use Rattle.cycle.specs.declared.Carried.{Carried}
@@ -15,11 +16,15 @@ pub data Told : Type 0 where
 -- 01's number and values for each case of the answer
 abbrev pub told_listing : Result ℕ Refused → Told
 told_listing (Ok n) = counted n
-told_listing (Err r) = refusal (number r.ground) r.cycle
+told_listing (Err r) = refusal (number r.why) r.cycle
 
 -- 7: "a trace longer than 65,536 cycles"
 unfoldable pub too_long : List ℕ → Told → Told
 too_long trace otherwise = cond (ltb 65536 (length trace)) (refusal (number TraceTooLong) 0) otherwise
+
+-- 8, then 9, of one cycle of PST p, which finds so many nibbles due
+unfoldable pub cycle_judged : ℕ → ℕ → Result Unit Ground
+cycle_judged due p = cond (reserved p) (Err ReservedPst) (cond (too_soon due p) (Err MarkerTooSoon) (Ok tt))
 
 -- "the earliest cycle with 8 or 9", of n cycles from cycle i on, which finds c under way; else by what they leave under way
 unfoldable pub earliest : List ℕ → ℕ → Carried → ℕ → (Carried → Told) → Told

@@ -11,6 +11,6 @@ told_listing_unique (Ok n) (Ok m) e = cc
 told_listing_unique (Ok n) (Err r) e = let z : ◌≡◌ {A = ℕ} 0 1 = cc in absurd (omega arith)
 told_listing_unique (Err r) (Ok m) e = let z : ◌≡◌ {A = ℕ} 0 1 = cc in absurd (omega arith)
 told_listing_unique (Err r) (Err s) e =
-    let same : r.ground ≡ s.ground = same_number_same_ground r.ground s.ground (cc) in
+    let same : r.why ≡ s.why = same_number_same_ground r.why s.why (cc) in
     let cycle : r.cycle ≡ s.cycle = cc in
-    cc
+    rw (same, cycle)

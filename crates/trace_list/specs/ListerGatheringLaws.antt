@@ -68,7 +68,7 @@ module _ (trace before : List ℕ) (start : Result ℕ Refused) (judged : told_l
       → laid before (parts_by (length before) (length trace) (items trace) told) ≡ laid before (whole_parts (length before) trace)
   by_judged told e = ap (λ (t : Told). laid before (parts_by (length before) (length trace) (items trace) t)) (sym e ∙ judged)
 
-  pub whole_refused : {after : List ℕ} (why : Ground) (cycle : ℕ) → start ≡ Err (record { ground = why; cycle = cycle })
+  pub whole_refused : {after : List ℕ} (why : Ground) (cycle : ℕ) → start ≡ Err (record { why = why; cycle = cycle })
       → after ≡ written before 0 (refused_line (number why) cycle) → after ≡ laid before (whole_parts (length before) trace)
   whole_refused why cycle e f = f ∙ by_judged (refusal (number why) cycle) (ap told_listing e)
 
@@ -82,7 +82,7 @@ module _ (before left : List ℕ) (cycles : ℕ) (listed : Result ℕ Refused) w
       → laid before (listed_parts_by (length before) cycles left told) ≡ laid before (listed_parts (length before) cycles left listed)
   by_listed told e = ap (λ (t : Told). laid before (listed_parts_by (length before) cycles left t)) (sym e)
 
-  pub listed_refused : {after : List ℕ} (why : Ground) (cycle : ℕ) → listed ≡ Err (record { ground = why; cycle = cycle })
+  pub listed_refused : {after : List ℕ} (why : Ground) (cycle : ℕ) → listed ≡ Err (record { why = why; cycle = cycle })
       → after ≡ written before 0 (refused_line (number why) cycle) → after ≡ laid before (listed_parts (length before) cycles left listed)
   listed_refused why cycle e f = f ∙ by_listed (refusal (number why) cycle) (ap told_listing e)
 

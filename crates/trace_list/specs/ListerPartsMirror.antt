@@ -1,5 +1,5 @@
 -- The parts in which the lister's lines are written out: the head by itself, then items until half of the text is used.
-use Rattle.std.specs.Prelude.{ℕ, ◌*◌, ◌/◌, ◌≡◌, cond, List, [], ◌∷◌, ltb, length, get_or, take, replicate, Err, Ok, Result}
+use Rattle.std.specs.Prelude.{ℕ, ◌*◌, ◌/◌, ◌≡◌, cond, List, [], ◌∷◌, ltb, length, get_or, take, replicate, Err, None, Ok, Option, Result}
 use Rattle.trace.specs.declared.Refused.{Refused}
 use Rattle.cycle.specs.declared.Item.{Item}
 use Rattle.trace.specs.Items.{items, items_to_end, words}
@@ -19,6 +19,11 @@ use Rattle.trace_list.specs.ListerLines.{item_lines, refused_line, head_line, un
 abbrev pub GoodStart : Result ℕ Refused → Type 0
 GoodStart (Ok n) = Unit
 GoodStart (Err r) = ⊥
+
+-- the item that is handed out, if one is
+abbrev pub item_in : Result (Option Item) Refused → Option Item
+item_in (Ok item) = item
+item_in (Err r) = None
 
 -- a trace's, of some of its items
 abbrev pub parts_by : ℕ → ℕ → List Item → Told → List (List ℕ)

@@ -98,7 +98,7 @@ module _ (before trace : List ℕ) (from space : ℕ) {page : Page} {index : Lis
       ap (λ (t : Told). laid before (rest_parts_by (length before) trace from (index_after trace no_index (page_verdict trace (length no_index))) space t))
       (sym e ∙ met.answer)
 
-  pub rest_refused : {after : List ℕ} (why : Ground) (cycle : ℕ) → page.judged ≡ Err (record { ground = why; cycle = cycle })
+  pub rest_refused : {after : List ℕ} (why : Ground) (cycle : ℕ) → page.judged ≡ Err (record { why = why; cycle = cycle })
       → after ≡ written before 0 (refused_line (number why) cycle) → after ≡ laid before (rest_parts (length before) trace from space)
   rest_refused why cycle e f = f ∙ by_page (refusal (number why) cycle) (ap told_listing e)
 

@@ -2,7 +2,7 @@
 ghost use Rattle.std.specs.Prelude.{◌≡◌};
 ghost use Rattle.trace_list.specs.Asked.{decimal, from_of};
 
-#[derive(Clone, Copy)]
+#[derive(Clone, Copy, Debug, PartialEq, Eq)]
 pub enum Asked {
     Whole,
     From(u32),
@@ -14,20 +14,14 @@ fn read_decimal(word: &[u8]) -> Asked
     ensures { result ≡ decimal 0 word.now }
 {
     let mut number = 0u64;
-    let mut i = 0usize;
-    while i < word.len() {
-        let byte = word[i];
-        if byte < b'0' {
+    for &byte in word {
+        if byte < b'0' || b'9' < byte {
             return Asked::Unclear;
         }
-        if b'9' < byte {
-            return Asked::Unclear;
-        }
-        number = number * 10 + (byte - b'0') as u64;
+        number = number * 10 + u64::from(byte - b'0');
         if 0xFFFFFFFF < number {
             return Asked::Unclear;
         }
-        i += 1;
     }
     Asked::From(number as u32)
 }
@@ -39,15 +33,15 @@ pub fn read_from(word: &[u8]) -> Asked
     if word.len() == 0 {
         return Asked::Unclear;
     }
-    let read = read_decimal(word);
-    match read {
+    match read_decimal(word) {
         Asked::Whole => Asked::Unclear,
         Asked::Unclear => Asked::Unclear,
         Asked::From(cycle) => {
             if cycle % 256 == 0 {
-                return Asked::From(cycle);
+                Asked::From(cycle)
+            } else {
+                Asked::Unclear
             }
-            Asked::Unclear
         }
     }
 }

@@ -13,11 +13,10 @@ ghost use Rattle.text.specs.Text.{Puts, written};
 ghost use Rattle.console.specs.LineWriting.{laid};
 ghost use Rattle.trace_list.specs.ListerLines.{item_line, item_lines, refused_line, head_line, unclear_line};
 ghost use Rattle.console.specs.GatheringMirror.{place_in, parts};
-ghost use Rattle.trace_list.specs.ListerPartsMirror.{GoodStart, whole_parts, from_parts, rest_parts, ShownMeets, listed_parts};
+ghost use Rattle.trace_list.specs.ListerPartsMirror.{GoodStart, item_in, whole_parts, from_parts, rest_parts, ShownMeets, listed_parts};
 ghost use Rattle.trace_list.specs.Asked.{AskedMeets};
 ghost use Rattle.trace_list.specs.declared.asked.Asked.TheVariants.{Whole, From};
 
-use trace::Refused;
 use asked::Asked;
 use console::arguments;
 use cycle::Item;
@@ -28,13 +27,14 @@ use std::io::{Stdin, Stdout};
 use steps::Cursor;
 use summary::page;
 use text::listing::{put_head, put_item};
+use trace::Refused;
 
 // An item's first word.
 fn word_of(item: Item) -> u32
     requires { item.cycle ≤ 65536 }
     ensures { result ≡ item.cycle * 16 + item.code }
 {
-    (item.cycle * 16 + item.code as usize) as u32
+    item.cycle as u32 * 16 + u32::from(item.code)
 }
 
 // One more item's line; the place after it.
@@ -51,14 +51,18 @@ fn add_item(output: Stdout, text: &mut [u8], at: usize, word: u32, value: u32) -
 fn write_items(output: Stdout, words: &[u32], text: &mut [u8])
     ensures { text.new ≡ laid text.old (parts (length text.old) (item_lines words.now)) }
 {
-    let mut at = 0usize;
-    let items = words.len() / 2;
-    let mut k = 0usize;
-    while k < items {
+    let mut at = 0;
+    for k in 0..words.len() / 2 {
         at = add_item(output, text, at, words[2 * k], words[2 * k + 1]);
-        k += 1;
     }
     console::write(output, text, at);
+}
+
+// A walk whose start was refused hands out no item.
+fn item_of(handed: Result<Option<Item>, Refused>) -> Option<Item>
+    ensures { result ≡ item_in handed }
+{
+    handed.unwrap_or(None)
 }
 
 // The lines of the items that a walk hands out, one a step, until it hands out none.
@@ -68,12 +72,11 @@ fn write_walk(output: Stdout, trace: &[u8], start: Cursor, text: &mut [u8])
     ensures { text.new
         ≡ laid text.old (parts (length text.old) (item_lines (words (items trace.now)))) }
 {
-    let mut at = 0usize;
+    let mut at = 0;
     let mut cursor = start;
     loop {
         let step = walk::next_item(trace, cursor);
-        let handed = step.handed;
-        let Ok(Some(item)) = handed else {
+        let Some(item) = item_of(step.handed) else {
             break;
         };
         at = add_item(output, text, at, word_of(item), item.value);
@@ -97,12 +100,18 @@ fn say_head(output: Stdout, cycles: usize, items: usize, text: &mut [u8])
 }
 
 // What a listing answered, and the items whose words it left.
-fn write_listing(output: Stdout, listed: Result<usize, Refused>, cycles: usize, words: &[u32], text: &mut [u8])
+fn write_listing(
+    output: Stdout,
+    listed: Result<usize, Refused>,
+    cycles: usize,
+    words: &[u32],
+    text: &mut [u8],
+)
     ensures { text.new
         ≡ laid text.old (listed_parts (length text.old) cycles words.now listed) }
 {
     match listed {
-        Err(Refused { ground, cycle }) => say_refusal(output, ground, cycle, text),
+        Err(refused) => say_refusal(output, refused.why, refused.cycle, text),
         Ok(items) => {
             say_head(output, cycles, items, text);
             let room = words.len() / 2;
@@ -120,9 +129,8 @@ fn write_whole(output: Stdout, trace: &[u8], text: &mut [u8])
         × (text.new ≡ laid text.old (whole_parts (length text.old) trace.now)) }
 {
     let start = walk::start_cursor(trace);
-    let judged = start.start;
-    match judged {
-        Err(Refused { ground, cycle }) => say_refusal(output, ground, cycle, text),
+    match start.start {
+        Err(refused) => say_refusal(output, refused.why, refused.cycle, text),
         Ok(items) => {
             say_head(output, trace.len(), items, text);
             write_walk(output, trace, start, text);
@@ -169,10 +177,8 @@ fn list_from(output: Stdout, trace: &[u8], from: usize, words: &mut [u32], text:
         (rest_parts (length text.old) trace.now from (length words.old))) }
 {
     let mut index = [0u32; 256];
-    let page = page::make_page(trace, &mut index);
-    let judged = page.judged;
-    match judged {
-        Err(Refused { ground, cycle }) => say_refusal(output, ground, cycle, text),
+    match page::make_page(trace, &mut index).judged {
+        Err(refused) => say_refusal(output, refused.why, refused.cycle, text),
         Ok(_) => write_from(output, trace, from, &index, words, text),
     }
 }
@@ -209,16 +215,15 @@ fn answer(input: Stdin, output: Stdout, asked: Asked, text: &mut [u8])
 fn read_asked<R: Env>(rt: &R) -> Asked
     ensures { AskedMeets result }
 {
-    let count = arguments::count(rt);
-    if count < 2 {
-        return Asked::Whole;
+    match arguments::count(rt) {
+        0 | 1 => Asked::Whole,
+        2 => {
+            let mut word = [0u8; 131072];
+            let end = arguments::word(rt, 1, &mut word);
+            asked::read_from(&word[..end])
+        }
+        _ => Asked::Unclear,
     }
-    if 2 < count {
-        return Asked::Unclear;
-    }
-    let mut word = [0u8; 131072];
-    let end = arguments::word(rt, 1, &mut word);
-    asked::read_from(&word[..end])
 }
 
 fn main(rt: HostRuntime) {

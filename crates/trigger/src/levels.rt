@@ -12,11 +12,12 @@ fn is_set(bits: u32, k: u32) -> bool
     (bits >> k) % 2 == 1
 }
 
+#[tactic(auto, unfolding(crate::specs::Levels::level_of))]
 fn level_of(bits: u32, t: bool) -> Level
     ensures { result ≡ level_of bits t }
 {
     Level {
-        t: t,
+        t,
         ebl: is_set(bits, 13),
         edlw: is_set(bits, 12),
         edwl: is_set(bits, 11),

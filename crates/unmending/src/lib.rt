@@ -6,7 +6,6 @@ ghost use Rattle.same.specs.SameList.{same};
 ghost use Rattle.mending.specs.Mending.{mended, changes};
 ghost use Rattle.unmending.specs.Unmending.{put_word, put_back, UnmendingMeets};
 
-
 fn put_word(trace: &mut [u8], word: u32)
     ensures { trace.new ≡ put_word trace.old word }
 {
@@ -20,10 +19,8 @@ fn put_word(trace: &mut [u8], word: u32)
 pub fn put_back(trace: &mut [u8], list: &[u32])
     ensures { trace.new ≡ put_back trace.old list.now }
 {
-    let mut k = 0usize;
-    while k < list.len() {
-        put_word(trace, list[k]);
-        k += 1;
+    for &word in list {
+        put_word(trace, word);
     }
 }
 
@@ -35,15 +32,9 @@ fn gives_both(recorded: &[u8], trace: &[u8], list: &[u32]) -> bool
     let mut again = [0u8; 65536];
     let mut words = [0u32; 65536];
     let n = recorded.len();
-    let answer = mending::mend_trace(recorded, &mut again, &mut words);
-    match answer {
+    match mending::mend_trace(recorded, &mut again, &mut words) {
         Err(_) => false,
-        Ok(changed) => {
-            if same::is_same(&again[..n], trace) {
-                return same::is_same_list(&words[..changed], list);
-            }
-            false
-        }
+        Ok(changed) => same::is_same(&again[..n], trace) && same::is_same(&words[..changed], list),
     }
 }
 

@@ -46,18 +46,15 @@ fn put_place(text: &mut [u8], at: usize, address: u32) -> usize
 fn put_subject(text: &mut [u8], at: usize, address: u32, j: u32) -> usize
     ensures { Puts text.old at (subject_text address j) text.new result }
 {
-    if j < 16 {
-        return put_register(text, at, j);
+    match j {
+        0..16 => put_register(text, at, j),
+        16..26 => put_control(text, at, asked::control_number(j - 16)),
+        26 => put_text(text, at, b"csr"),
+        _ => put_place(text, at, asked::address_at(address, j - 27)),
     }
-    if j < 26 {
-        return put_control(text, at, asked::control_number(j - 16));
-    }
-    if j < 27 {
-        return put_text(text, at, b"csr");
-    }
-    put_place(text, at, asked::address_at(address, j - 27))
 }
 
+// Three arms are request_text's: one function would make gateway stand on that crate and on the text of refusals, for three lines.
 fn put_value(text: &mut [u8], at: usize, outcome: Outcome) -> usize
     ensures { Puts text.old at (value_text outcome) text.new result }
 {

@@ -1,5 +1,6 @@
 -- Laws of [10] over a file: at another W each line is taken alike, shows the same row and leaves the same but for W.
-use Rattle.std.specs.Prelude.{ℕ, zero, suc, ◌+◌, ◌*◌, ◌≤◌, ◌<◌, ◌≡◌, refl, true, false, List, [], ◌∷◌, ◌++◌, get_or, set, take, drop, Err, Ok, Result}
+use Rattle.std.specs.Prelude.{ℕ, zero, suc, ◌+◌, ◌*◌, ◌≤◌, ◌<◌, ◌≡◌, refl, true, false, List, [], ◌∷◌, ◌++◌, get_or, set, take, drop, Err, Ok}
+use Rattle.std.specs.Prelude.{Result as StdResult}
 use Rattle.readings.specs.declared.Outcome.{Outcome}
 use Rattle.grounds.specs.declared.Ground.{Ground}
 use Rattle.std.proofs.Common.{arith, ap, ap₂, sym, ◌∙◌, true≢false}
@@ -90,7 +91,7 @@ abbrev told_as : Result → List ℕ
 told_as (Result.came outcome) = outcome_text outcome
 told_as (Result.refused why) = refused_text why
 
-result_told : (x : Result (Outcome × ℕ) Ground) → result_text x ≡ told_as (result_of x)
+result_told : (x : StdResult (Outcome × ℕ) Ground) → result_text x ≡ told_as (result_of x)
 result_told (Ok (outcome, packets)) = refl
 result_told (Err why) = refl
 

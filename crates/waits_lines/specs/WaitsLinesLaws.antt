@@ -1,8 +1,13 @@
 -- Laws of the file that `waits` is given: its bytes one by one, its lines one after another, and how long a result is.
-use Rattle.std.specs.Prelude.{ℕ, suc, ◌+◌, ◌-◌, ◌≤◌, ◌<◌, ◌≡◌, refl, Bool, true, false, cond, List, [], ◌∷◌, ◌++◌, eqb, length, get_or, take, drop, Err, Ok, Result}
+use Rattle.std.specs.Prelude.{ℕ, suc, ◌+◌, ◌-◌, ◌≤◌, ◌<◌, ◌≡◌, refl, Bool, true, false, cond, List, [], ◌∷◌, ◌++◌, eqb, length, get_or, take, drop, Err, Ok}
+use Rattle.std.specs.Prelude.{Result}
 use Rattle.readings.specs.declared.Outcome.{Outcome}
 use Rattle.grounds.specs.declared.Ground.{Ground}
-use Rattle.std.proofs.Common.{true≢false, arith, suc-add, length-append, length-take, length-drop, drop_of_length-le, drop-drop}
+use Rattle.std.proofs.Common.{true≢false, arith, suc-add, length-append, length-take, length-drop, drop_of_length-le, drop-drop, ap}
+use Rattle.std.specs.Prelude.{Some, None, ltb, position}
+use Rattle.std.specs.Option.{unwrap_or}
+use Rattle.std.proofs.lemmas.Bool.Decides.{nat_tests}
+use Rattle.std.proofs.lemmas.List.Recursion.{is_position_or_len}
 use Rattle.words.specs.LineWords.{joined}
 use Rattle.words.specs.LineWordLaws.{from_here}
 use Rattle.console.specs.InputLines.{is_line_end}
@@ -56,13 +61,25 @@ line_goes_on input i h e = rw (from_here input i h, e)
 pub line_out : (input : List ℕ) (i : ℕ) → length input ≤ i → line_length (drop i input) ≡ 0
 line_out input i h = rw (drop_of_length-le input h)
 
-line_within : (bytes : List ℕ) → line_length bytes ≤ length bytes
+pub line_within : (bytes : List ℕ) → line_length bytes ≤ length bytes
 line_within [] = omega arith
 line_within (byte ∷ bytes) = by_test (line_within bytes) (is_line_end byte)
   where
     by_test : line_length bytes ≤ length bytes → (t : Bool) → cond t 0 (suc (line_length bytes)) ≤ suc (length bytes)
     by_test h true = omega arith
     by_test h false = omega arith
+
+-- and the bytes before it are as many as its place says, or all
+counted : (byte : ℕ) (bytes : List ℕ) → line_length (byte ∷ bytes) ≡ cond (is_line_end byte) 0 (1 + line_length bytes)
+counted byte bytes =
+    let e : suc (line_length bytes) ≡ 1 + line_length bytes = omega arith in ap (λ (n : ℕ). cond (is_line_end byte) 0 n) e
+
+by_place : (bytes : List ℕ) (n : ℕ) → n ≤ length bytes → unwrap_or (cond (ltb n (length bytes)) (Some n) None) (length bytes) ≡ n
+by_place bytes n h = grind (arith, nat_tests)
+
+pub line_length_found : (bytes : List ℕ) → unwrap_or (position is_line_end bytes) (length bytes) ≡ line_length bytes
+line_length_found bytes =
+    rw (← is_position_or_len line_length is_line_end refl counted bytes) (by_place bytes (line_length bytes) (line_within bytes))
 
 pub line_end_within : (input : List ℕ) (from end : ℕ) → from ≤ length input → end ≡ from + line_length (drop from input) → end ≤ length input
 line_end_within input from end h e = omega (arith, line_within (drop from input), length-drop from input)

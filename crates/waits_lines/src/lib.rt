@@ -1,24 +1,26 @@
 // The lines of the file that `waits` is given (docs/waits.md): taken one after another on a bench, the requests' answers put down row by row.
 #![tactic(auto)]
 
-ghost use Rattle.std.specs.Prelude.{◌+◌, ◌≡◌, drop};
+ghost use Rattle.std.specs.Prelude.{◌+◌, ◌≡◌, drop, position};
+ghost use Rattle.console.specs.InputLines.{is_line_end};
 ghost use Rattle.text.specs.Text.{Puts};
 ghost use Rattle.answers.specs.Bench.{left, over_lent};
 ghost use Rattle.asking.specs.Asking.{exchanged, exchange_outcome};
 ghost use Rattle.talk_lines.specs.declared.TalkLine.TheVariants.{Board};
 ghost use Rattle.waits_lines.specs.WaitsLines.{file_lines, line_length, ends_one, line_number, prepares, is_taken, left_as, answer_in, result_text, packets_in};
-ghost use Rattle.waits_lines.specs.WaitsLines.{row_text, row_as, packets_as, capped, LinesTaken};
+ghost use Rattle.waits_lines.specs.WaitsLines.{row_text, row_as, packets_as, LinesTaken};
 
-use readings::Outcome;
-use grounds::Ground;
 use answers::Bench;
 use board_lines::BoardLine;
+use grounds::Ground;
+use readings::Outcome;
 use refusal_text::put_refusal;
 use request_text::put_outcome;
 use requests::Request;
 use talk_lines::TalkLine;
 
 // The bench after lines, where their rows end, their packets; whether all were taken, and where the first begins that was not.
+// A flag and a place, and no Option: the place is told in both cases (LinesTaken).
 #[derive(Clone, Copy)]
 pub struct Gone {
     pub bench: Bench,
@@ -43,46 +45,38 @@ struct Line {
     packets: usize,
 }
 
+fn first_line_end(bytes: &[u8]) -> Option<usize>
+    ensures { result ≡ position is_line_end bytes.now }
+{
+    bytes.iter().position(|&byte| console::is_line_end(byte))
+}
+
 // Where the line that begins at a place ends.
 pub fn line_end(input: &[u8], from: usize) -> usize
     ensures { result ≡ from + line_length (drop from input.now) }
 {
-    let mut i = from;
-    while i < input.len() {
-        if console::is_line_end(input[i]) {
-            return i;
-        }
-        i += 1;
+    if from < input.len() {
+        from + first_line_end(&input[from..]).unwrap_or(input.len() - from)
+    } else {
+        from
     }
-    i
 }
 
 fn ends_one(after_cr: bool, byte: u8) -> bool
     ensures { result ≡ ends_one after_cr byte }
 {
-    if byte == b'\r' {
-        return true;
-    }
-    if byte == b'\n' {
-        return !after_cr;
-    }
-    false
+    byte == b'\r' || (byte == b'\n' && !after_cr)
 }
 
 // The number of the line that comes behind such bytes.
 pub fn line_number(before: &[u8]) -> usize
     ensures { result ≡ line_number before.now }
 {
-    let mut n: usize = 1;
+    let mut n = 1usize;
     let mut after_cr = false;
-    let mut i: usize = 0;
-    while i < before.len() {
-        let byte = before[i];
-        if ends_one(after_cr, byte) {
-            n += 1;
-        }
+    for &byte in before {
+        n += usize::from(ends_one(after_cr, byte));
         after_cr = byte == b'\r';
-        i += 1;
     }
     n
 }
@@ -91,17 +85,9 @@ fn prepares(asked: BoardLine, lent: usize) -> bool
     ensures { result ≡ prepares asked lent }
 {
     match asked {
-        BoardLine::Nothing => true,
-        BoardLine::Make(_) => false,
-        BoardLine::Memory(_) => true,
+        BoardLine::Nothing | BoardLine::Memory(_) => true,
         BoardLine::Bytes(address, _, count) => lent::is_lent(address, count, lent),
-        BoardLine::Packet(_) => false,
-        BoardLine::Event(_, _) => false,
-        BoardLine::EventWithAccess(_, _, _, _, _) => false,
-        BoardLine::Breakpoint => false,
-        BoardLine::Peek(_, _) => false,
-        BoardLine::State => false,
-        BoardLine::Unclear => false,
+        _ => false,
     }
 }
 
@@ -119,19 +105,14 @@ fn converse(request: Request, bench: Bench, memory: &mut [u8]) -> Asked
     ensures { (result.answer ≡ exchange_outcome request bench memory.old)
         × (left result.bench memory.new ≡ exchanged request bench memory.old) }
 {
-    let board = bench.board;
-    let place = bench.place;
-    let returned = exchange::exchange(request, board, place, memory);
-    let answer = returned.answer;
-    let board_next = returned.board;
-    let place_next = returned.place;
+    let returned = exchange::exchange(request, bench.board, bench.place, memory);
     Asked {
         bench: Bench {
-            board: board_next,
-            place: place_next,
-            lent: bench.lent,
+            board: returned.board,
+            place: returned.place,
+            ..bench
         },
-        answer: answer,
+        answer: returned.answer,
     }
 }
 
@@ -179,9 +160,7 @@ fn prepare(line: &[u8], asked: BoardLine, bench: Bench, memory: &mut [u8]) -> Be
     ensures { left result memory.new ≡ left_as line.now (Board asked) (left bench memory.old) }
 {
     let mut text = [0u8; 16];
-    let answered = line_answers::answer_line(line, asked, bench, memory, &mut text);
-    let after = answered.bench;
-    after
+    line_answers::answer_line(line, asked, bench, memory, &mut text).bench
 }
 
 fn take_line(
@@ -197,34 +176,20 @@ fn take_line(
         × (result.packets ≡ packets_as asked (left bench memory.old)) }
 {
     match asked {
-        TalkLine::Board(asked) => {
-            let after = prepare(line, asked, bench, memory);
-            Line {
-                bench: after,
-                end: at,
-                packets: 0,
-            }
-        }
+        TalkLine::Board(asked) => Line {
+            bench: prepare(line, asked, bench, memory),
+            end: at,
+            packets: 0,
+        },
         TalkLine::Ask(request) => {
             let asked = ask(request, bench, memory);
-            let after = asked.bench;
-            let answer = asked.answer;
             Line {
-                bench: after,
-                end: put_row(text, at, line, answer),
-                packets: packets_in(answer) as usize,
+                bench: asked.bench,
+                end: put_row(text, at, line, asked.answer),
+                packets: packets_in(asked.answer) as usize,
             }
         }
     }
-}
-
-fn add_packets(sent: usize, more: usize) -> usize
-    ensures { result ≡ capped (sent + more) }
-{
-    if more <= 0xFFFFFFFFFFFFFFFF - sent {
-        return sent + more;
-    }
-    0xFFFFFFFFFFFFFFFF
 }
 
 // Each line from the first on, up to one that is not taken.
@@ -233,9 +198,10 @@ pub fn take_lines(input: &[u8], bench: Bench, memory: &mut [u8], text: &mut [u8]
         text.new memory.new }
 {
     let mut b = bench;
-    let mut at: usize = 0;
-    let mut packets: usize = 0;
-    let mut from: usize = 0;
+    let mut at = 0usize;
+    let mut packets = 0usize;
+    let mut from = 0usize;
+    // A while: how far the next line is depends on where this one ends, and `split` would put a line behind the last line end.
     while from < input.len() {
         let end = line_end(input, from);
         let asked = talk_lines::read_talk_line(&input[from..end]);
@@ -243,7 +209,7 @@ pub fn take_lines(input: &[u8], bench: Bench, memory: &mut [u8], text: &mut [u8]
             return Gone {
                 bench: b,
                 end: at,
-                packets: packets,
+                packets,
                 taken: false,
                 stray: from,
             };
@@ -251,13 +217,13 @@ pub fn take_lines(input: &[u8], bench: Bench, memory: &mut [u8], text: &mut [u8]
         let taken = take_line(&input[from..end], asked, b, memory, text, at);
         b = taken.bench;
         at = taken.end;
-        packets = add_packets(packets, taken.packets);
+        packets = packets.saturating_add(taken.packets);
         from = end + 1;
     }
     Gone {
         bench: b,
         end: at,
-        packets: packets,
+        packets,
         taken: true,
         stray: from,
     }

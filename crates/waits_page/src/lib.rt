@@ -31,8 +31,7 @@ fn put_settings(
 {
     let mut end = at;
     let mut same = true;
-    let mut w: u32 = 0;
-    while w < 16 {
+    for w in 0..16 {
         let ran = run_at(w, input, memory, text);
         let judged = put_setting(
             page,
@@ -46,21 +45,18 @@ fn put_settings(
         );
         end = judged.end;
         same = same & judged.same;
-        w += 1;
     }
-    Judged {
-        end: end,
-        same: same,
-    }
+    Judged { end, same }
 }
 
 fn put_verdict(page: &mut [u8], at: usize, same: bool) -> usize
     ensures { Puts page.old at (verdict_text same) page.new result }
 {
     if same {
-        return put_text(page, at, b"SAME\n");
+        put_text(page, at, b"SAME\n")
+    } else {
+        put_text(page, at, b"DIFFERENT\n")
     }
-    put_text(page, at, b"DIFFERENT\n")
 }
 
 fn put_unclear(page: &mut [u8], before: &[u8]) -> usize
@@ -93,7 +89,8 @@ pub fn put_page(
         let lines = front(due, first.end);
         let at = put_text(page, 0, lines);
         let judged = put_settings(page, at, input, lines, due_memory, memory, text);
-        return put_verdict(page, judged.end, judged.same);
+        put_verdict(page, judged.end, judged.same)
+    } else {
+        put_unclear(page, front(input, first.stray))
     }
-    put_unclear(page, front(input, first.stray))
 }

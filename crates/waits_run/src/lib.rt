@@ -13,7 +13,8 @@ use text::put_byte;
 use waits_lines::take_lines;
 
 // A run at one W: where its lines end in the text, its packets; whether all lines of the file were taken, and where the first begins that was not.
-#[derive(Clone, Copy)]
+// A flag and a place, and no Option: the place is told in both cases (RunSo).
+#[derive(Clone, Copy, Debug, PartialEq, Eq)]
 pub struct Ran {
     pub end: usize,
     pub packets: usize,
@@ -28,11 +29,9 @@ fn start(w: u32, memory: &mut [u8]) -> Bench
     let size = memory.len();
     lent::clear(memory, size);
     let made = board::make(w);
-    let board = made.board;
-    let place = made.place;
     Bench {
-        board: board,
-        place: place,
+        board: made.board,
+        place: made.place,
         lent: 0,
     }
 }
@@ -42,10 +41,11 @@ fn put_state_line(text: &mut [u8], at: usize, bench: Bench) -> usize
     requires { at ≤ length text.old }
     ensures { Puts text.old at (state_line bench) text.new result }
 {
-    let board = bench.board;
-    let place = bench.place;
-    let told = Board { w: 0, ..board };
-    let count = state_line::put_state(&mut text[at..], told, place);
+    let told = Board {
+        w: 0,
+        ..bench.board
+    };
+    let count = state_line::put_state(&mut text[at..], told, bench.place);
     put_byte(text, at + count, b'\n')
 }
 
@@ -54,9 +54,8 @@ pub fn run_at(w: u32, input: &[u8], memory: &mut [u8], text: &mut [u8]) -> Ran
 {
     let bench = start(w, memory);
     let gone = take_lines(input, bench, memory, text);
-    let after = gone.bench;
     Ran {
-        end: put_state_line(text, gone.end, after),
+        end: put_state_line(text, gone.end, gone.bench),
         packets: gone.packets,
         taken: gone.taken,
         stray: gone.stray,

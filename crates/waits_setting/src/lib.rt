@@ -11,7 +11,7 @@ use text::{put_byte, put_decimal, put_hex, put_text};
 use waits_lines::line_end;
 
 // Where the page ends, and whether all was the same.
-#[derive(Clone, Copy)]
+#[derive(Clone, Copy, Debug, PartialEq, Eq)]
 pub struct Judged {
     pub end: usize,
     pub same: bool,
@@ -21,30 +21,22 @@ pub struct Judged {
 fn first_other(due: &[u8], came: &[u8]) -> usize
     ensures { result ≡ first_other due.now came.now }
 {
-    let mut i: usize = 0;
-    while i < due.len() {
-        if came.len() <= i {
+    for (i, &byte) in due.iter().enumerate() {
+        if came.len() <= i || byte != came[i] {
             return i;
         }
-        if due[i] != came[i] {
-            return i;
-        }
-        i += 1;
     }
-    i
+    due.len()
 }
 
 // Where the line begins that goes on behind these bytes.
 fn line_start(before: &[u8]) -> usize
     ensures { result ≡ line_start 0 0 before.now }
 {
-    let mut start: usize = 0;
-    let mut i: usize = 0;
-    while i < before.len() {
-        let byte = before[i];
-        i += 1;
+    let mut start = 0usize;
+    for (i, &byte) in before.iter().enumerate() {
         if byte == b'\n' {
-            start = i;
+            start = i + 1;
         }
     }
     start
@@ -62,10 +54,7 @@ fn put_other_line(page: &mut [u8], at: usize, due: &[u8], came: &[u8]) -> usize
 fn byte_at(bytes: &[u8], at: usize) -> u32
     ensures { result ≡ get_or bytes.now at 0 }
 {
-    if at < bytes.len() {
-        return bytes[at] as u32;
-    }
-    0
+    u32::from(bytes.get(at).copied().unwrap_or(0))
 }
 
 fn put_memory(page: &mut [u8], at: usize, due: &[u8], came: &[u8]) -> usize
@@ -91,22 +80,22 @@ fn put_judged(
         (is_same (came_of due.now due_memory.now) (came_of came.now memory.now))
         page.old at result page.new }
 {
-    if is_same(due, came) {
-        if is_same(due_memory, memory) {
-            return Judged {
-                end: put_text(page, at, b" same"),
-                same: true,
-            };
+    if !is_same(due, came) {
+        let to = put_text(page, at, b" differs: ");
+        Judged {
+            end: put_other_line(page, to, due, came),
+            same: false,
         }
-        return Judged {
+    } else if is_same(due_memory, memory) {
+        Judged {
+            end: put_text(page, at, b" same"),
+            same: true,
+        }
+    } else {
+        Judged {
             end: put_memory(page, at, due_memory, memory),
             same: false,
-        };
-    }
-    let to = put_text(page, at, b" differs: ");
-    Judged {
-        end: put_other_line(page, to, due, came),
-        same: false,
+        }
     }
 }
 
@@ -132,6 +121,6 @@ pub fn put_setting(
     let judged = put_judged(page, to, due, came, due_memory, memory);
     Judged {
         end: put_byte(page, judged.end, b'\n'),
-        same: judged.same,
+        ..judged
     }
 }

@@ -62,7 +62,7 @@ module _ (trace : Bor (List ℕ)) (n : ℕ) where
       at_step q (Err r) u g ih = absurd u
 
 -- from a cursor whose start was refused, every step hands out the refusal
-refused_handed : (trace : Bor (List ℕ)) (cursor : Cursor) (why : Ground) (cycle m : ℕ) → cursor.start ≡ Err (record { ground = why; cycle = cycle })
+refused_handed : (trace : Bor (List ℕ)) (cursor : Cursor) (why : Ground) (cycle m : ℕ) → cursor.start ≡ Err (record { why = why; cycle = cycle })
     → map told_handed (handed_out m (walk_at trace cursor)) ≡ replicate m (refusal (number why) cycle)
 unfolding handed_out
 refused_handed trace cursor why cycle zero e = refl
@@ -91,6 +91,6 @@ module _ (trace : Bor (List ℕ)) (walk : Walk) (s : WalkStarts trace walk) wher
           → map told_handed (handed_out m (walk_at trace walk.cursor)) ≡ replicate m (refusal k i)
       by_start (Ok n) f g = let z : ◌≡◌ {A = ℕ} 0 1 = cc in absurd (omega arith)
       by_start (Err r) f g =
-          let number_is : number r.ground ≡ k = cc in
+          let number_is : number r.why ≡ k = cc in
           let cycle-is : r.cycle ≡ i = cc in
-          refused_handed trace walk.cursor r.ground r.cycle m f ∙ cc
+          refused_handed trace walk.cursor r.why r.cycle m f ∙ cc

@@ -91,6 +91,6 @@ rest_falls trace cursor x e = by_start cursor.start refl
     by_start : (l : Result ℕ Refused) → cursor.start ≡ l → length (rest trace (step_of trace cursor).cursor) < length (rest trace cursor)
     by_start (Ok n) f = by_handed (rest trace cursor) (step_of trace cursor).cursor (step_of trace cursor).handed e (step_unrolls trace cursor n f).0
     by_start (Err r) f =
-        let h = step_refused trace cursor r.ground r.cycle f in
+        let h = step_refused trace cursor r.why r.cycle f in
         let z : ◌≡◌ {A = ℕ} 0 1 = cc in
         absurd (omega arith)

@@ -6,8 +6,8 @@ ghost use Rattle.steps.specs.WalkStep.{StartMeets, step_of};
 ghost use Rattle.walk.specs.Walk.{WalkStarts, stepped_of};
 
 use cycle::Item;
-use trace::Refused;
 use steps::{Cursor, Step};
+use trace::Refused;
 
 #[derive(Clone, Copy)]
 pub struct Walk<'a> {
@@ -24,8 +24,10 @@ pub struct Stepped<'a> {
 pub fn start_walk<'a>(trace: &'a [u8]) -> Walk<'a>
     ensures { WalkStarts trace.entry result }
 {
-    let cursor = steps::start_at(trace);
-    Walk { trace, cursor }
+    Walk {
+        trace,
+        cursor: steps::start_at(trace),
+    }
 }
 
 pub fn step_walk<'a>(walk: Walk<'a>) -> Stepped<'a>
@@ -34,8 +36,8 @@ pub fn step_walk<'a>(walk: Walk<'a>) -> Stepped<'a>
     let step = steps::step_at(walk.trace, walk.cursor);
     Stepped {
         walk: Walk {
-            trace: walk.trace,
             cursor: step.cursor,
+            ..walk
         },
         handed: step.handed,
     }
@@ -45,8 +47,7 @@ pub fn step_walk<'a>(walk: Walk<'a>) -> Stepped<'a>
 pub fn start_cursor(trace: &[u8]) -> Cursor
     ensures { StartMeets trace.now result }
 {
-    let walk = start_walk(trace);
-    walk.cursor
+    start_walk(trace).cursor
 }
 
 pub fn next_item(trace: &[u8], cursor: Cursor) -> Step

@@ -1,9 +1,12 @@
 -- Laws of case: it does not matter, whether a word is a name, where words are parted, nor whether a line is silent.
-use Rattle.std.specs.Prelude.{ℕ, ◌+◌, ◌≤◌, ◌<◌, ◌≡◌, refl, Bool, true, false, cond, List, [], ◌∷◌, map, leb, eqb}
+use Rattle.std.specs.Prelude.{ℕ, ◌+◌, ◌≤◌, ◌<◌, ◌≡◌, refl, Bool, true, false, cond, List, [], ◌∷◌, map, leb, eqb, length, ◌==◌}
 use Rattle.std.proofs.Common.{arith, ap, sym, ◌∙◌, le-leb, leb-true, leb-false, ne_eqb}
 use Rattle.std.proofs.Math.Bool.{and-false}
 use Rattle.std.proofs.lemmas.List.{length-map}
 use Rattle.std.proofs.lemmas.Bool.{lt-leb}
+use Rattle.std.specs.Char.{to_ascii_lowercase}
+use Rattle.std.specs.List.{list_all, zip}
+use Rattle.std.proofs.lemmas.Str.Ascii.{lowercase_is}
 use Rattle.words.specs.LineWords.{is_gap, is_silent, kind_of, joined, parts, full, words, last_end, lower, same}
 
 -- a byte is a capital, which becomes another byte, or stays
@@ -32,6 +35,18 @@ same_lower [] [] = refl
 same_lower [] (b ∷ name) = refl
 same_lower (a ∷ word) [] = refl
 same_lower (a ∷ word) (b ∷ name) = rw (lower_lower a, same_lower word name)
+
+-- as the library makes small letters, and compares byte by byte
+lower_is : (byte : ℕ) → lower byte ≡ to_ascii_lowercase byte
+lower_is byte =
+    let known = lowercase_is byte in
+    by_case (λ b. b ≡ to_ascii_lowercase byte) byte (λ l h. sym (known.0 (l, h))) (λ h. sym (known.1 h), λ h. sym (known.2 h))
+
+pub same_is : (word name : List ℕ) → length word ≡ length name → same word name ≡ list_all (λ pair. to_ascii_lowercase pair.0 == pair.1) (zip word name)
+same_is [] [] h = refl
+same_is [] (b ∷ name) h = absurd (omega (arith, h))
+same_is (a ∷ word) [] h = absurd (omega (arith, h))
+same_is (a ∷ word) (b ∷ name) h = rw (lower_is a, same_is word name (omega (arith, h)))
 
 -- a space, a tab and `#` are no letters
 no_letter : (byte n : ℕ) → n < 65 → eqb (lower byte) n ≡ eqb byte n

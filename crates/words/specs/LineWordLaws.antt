@@ -1,9 +1,11 @@
 -- Laws of words: where they start and end in their line, and how they are compared, byte by byte.
-use Rattle.std.specs.Prelude.{ℕ, zero, suc, ◌+◌, ◌-◌, ◌<◌, ◌≤◌, ◌≡◌, refl, Bool, true, false, cond, ◌&&◌, List, [], ◌∷◌, map, leb, eqb, length}
+use Rattle.std.specs.Prelude.{ℕ, zero, suc, ◌+◌, ◌-◌, ◌<◌, ◌≤◌, ◌≡◌, refl, Bool, true, false, cond, ◌&&◌, not, List, [], ◌∷◌, map, leb, eqb, length}
 use Rattle.std.specs.Prelude.{get_or, take, drop}
-use Rattle.std.proofs.Common.{arith, ap, ◌∙◌, length-drop, drop_of_length-le, drop-drop, leb-true, eq-eqb, ne_eqb, eqb-true}
+use Rattle.std.proofs.Common.{arith, ap, ◌∙◌, length-drop, drop_of_length-le, drop-drop, leb-true, leb-false, eq-eqb, ne_eqb, eqb-true}
 use Rattle.std.proofs.Math.Bool.{and-false}
+use Rattle.std.specs.List.{take_while}
 use Rattle.std.proofs.lemmas.List.{length-map}
+use Rattle.std.proofs.lemmas.List.Sums.{take_while-cons}
 pub use Rattle.laws.specs.PlaceLaws.{from_here}
 use Rattle.words.specs.declared.LineKind.TheVariants.{Silent, Clear, TooLong}
 use Rattle.words.specs.LineWords.{is_gap, is_silent, kind_of, joined, parts, full, words, words_from, gap_length, word_length, last_end, lower, same}
@@ -28,6 +30,25 @@ word_stops line i h e = rw (from_here line i h, e)
 
 pub word_out : (line : List ℕ) (i : ℕ) → length line ≤ i → word_length (drop i line) ≡ 0
 word_out line i h = rw (drop_of_length-le line h)
+
+-- the spaces and tabs before the first word, and the bytes of a word, as what is taken from the front
+pub gap_length_is : (bytes : List ℕ) → gap_length bytes ≡ length (take_while is_gap bytes)
+gap_length_is [] = refl
+gap_length_is (byte ∷ bytes) = rw (take_while-cons is_gap byte bytes) (by_test (gap_length_is bytes) (is_gap byte))
+  where
+    by_test : gap_length bytes ≡ length (take_while is_gap bytes) → (t : Bool)
+        → cond t (suc (gap_length bytes)) 0 ≡ length (cond t (byte ∷ take_while is_gap bytes) [])
+    by_test h true = ap suc h
+    by_test h false = refl
+
+pub word_length_is : (bytes : List ℕ) → word_length bytes ≡ length (take_while (λ byte. not (is_gap byte)) bytes)
+word_length_is [] = refl
+word_length_is (byte ∷ bytes) = rw (take_while-cons (λ b. not (is_gap b)) byte bytes) (by_test (word_length_is bytes) (is_gap byte))
+  where
+    by_test : word_length bytes ≡ length (take_while (λ b. not (is_gap b)) bytes) → (t : Bool)
+        → cond t 0 (suc (word_length bytes)) ≡ length (cond (not t) (byte ∷ take_while (λ b. not (is_gap b)) bytes) [])
+    by_test h true = refl
+    by_test h false = ap suc h
 
 word_length_bound : (bytes : List ℕ) → word_length bytes ≤ length bytes
 word_length_bound [] = omega arith
@@ -147,6 +168,16 @@ last_end_lem line at start close p h q none =
     rw (behind, ← q) (omega (arith, length-drop close line)) in
     let last = last_of_one (drop start line) rest in
     last_behind line start (omega (arith, last, begins line at start p h)) ∙ omega (arith, last)
+
+pub none_behind : (line : List ℕ) (at : ℕ) → words_from line at ≡ [] → length line ≤ at + gap_length (drop at line)
+none_behind line at e = by_test (leb (length line) start) refl
+  where
+    start : ℕ
+    start = at + gap_length (drop at line)
+
+    by_test : (t : Bool) → leb (length line) start ≡ t → length line ≤ start
+    by_test true q = leb-true (length line) start q
+    by_test false q = let cut = next_word line at start refl (start + word_length (drop start line)) (leb-false (length line) start q) refl in cc (e, cut)
 
 -- comparing a word with a name byte by byte
 pub same_goes_on : (word name : List ℕ) (i : ℕ) → i < length word → i < length name → lower (get_or word i 0) ≡ get_or name i 0

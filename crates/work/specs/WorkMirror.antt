@@ -1,5 +1,5 @@
 -- The code's way to a value's result words: their number is the table's.
-use Rattle.std.specs.Prelude.{cond, eqb, None, Option, Some}
+use Rattle.std.specs.Prelude.{cond, eqb, None, Option, Some, ℕ}
 use Rattle.command.specs.declared.Command.{Command}
 use Rattle.command.specs.Command.{result_words}
 use Rattle.work.specs.declared.Ending.{Ending}

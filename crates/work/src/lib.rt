@@ -11,7 +11,7 @@ use command::{Base, Command, Source, Target};
 use memory::Size;
 
 // What a command's work ends in.
-#[derive(Clone, Copy)]
+#[derive(Clone, Copy, Debug, PartialEq, Eq)]
 pub enum Ending {
     Complete,
     Failed,
@@ -38,7 +38,7 @@ fn end_access(access: Access) -> Ending
     ensures { result ≡ access_ending access }
 {
     match access {
-        Access::NoAccess => Ending::Complete,
+        Access::NoAccess | Access::Stored(_) => Ending::Complete,
         // An arm for each size, so that the compiler knows the count.
         Access::Fetched(size, value, _) => {
             let found = Some(value);
@@ -48,7 +48,6 @@ fn end_access(access: Access) -> Ending
                 Size::Long => end_value(Command::Load(Size::Long, Base::Address), found),
             }
         }
-        Access::Stored(_) => Ending::Complete,
         Access::Missing(_) => Ending::Failed,
     }
 }
@@ -57,39 +56,30 @@ fn end_change(reached: bool) -> Ending
     ensures { result ≡ change_ending reached }
 {
     if reached {
-        return Ending::Complete;
+        Ending::Complete
+    } else {
+        Ending::Failed
     }
-    Ending::Failed
 }
 
 pub fn find_ending(command: Command, board: Board, address: u32, access: Access) -> Ending
     ensures { result ≡ ending_of command board address access }
 {
     match command {
-        Command::Unknown => Ending::Complete,
-        Command::Nop => Ending::Complete,
-        Command::Load(_, _) => end_access(access),
-        Command::Store(_, _) => end_access(access),
-        Command::Show(source) => match source {
-            Source::General(n) => {
-                let value = control::general_of(board, n as u32);
-                end_value(Command::Show(Source::General(n)), Some(value))
-            }
-            Source::Control => {
-                end_value(
-                    Command::Show(Source::Control),
-                    control::fetch_control(board, address),
-                )
-            }
-            Source::Csr => end_value(Command::Show(Source::Csr), Some(csr::csr_of(board))),
-        },
-        Command::Change(target) => match target {
-            Target::General(_) => Ending::Complete,
-            Target::Control => end_change(control::is_listed(address)),
-            Target::Debug(_) => Ending::Complete,
-            Target::Run => Ending::Complete,
-            Target::Sync => Ending::Complete,
-        },
+        Command::Load(_, _) | Command::Store(_, _) => end_access(access),
+        Command::Show(Source::General(n)) => {
+            let value = control::general_of(board, u32::from(n));
+            end_value(command, Some(value))
+        }
+        Command::Show(Source::Control) => {
+            end_value(command, control::fetch_control(board, address))
+        }
+        Command::Show(Source::Csr) => end_value(command, Some(csr::csr_of(board))),
+        Command::Change(Target::Control) => end_change(control::is_listed(address)),
+        Command::Unknown
+        | Command::Nop
+        | Command::Change(Target::General(_) | Target::Debug(_) | Target::Run | Target::Sync) =>
+            Ending::Complete,
     }
 }
 
@@ -108,9 +98,7 @@ fn phase_after(ending: Ending) -> Phase
     ensures { result ≡ phase_after ending }
 {
     match ending {
-        Ending::Complete => Phase::Rest,
-        Ending::Failed => Phase::Rest,
-        Ending::OneWord(_) => Phase::Rest,
+        Ending::Complete | Ending::Failed | Ending::OneWord(_) => Phase::Rest,
         Ending::TwoWords(value) => Phase::Upper((value % 65536) as u16),
     }
 }
@@ -119,12 +107,10 @@ fn chain_by(command: Command, chain: Chain) -> Chain
     ensures { result ≡ chain_by command chain }
 {
     match command {
-        Command::Unknown => Chain::Off,
         Command::Nop => chain,
         Command::Load(_, _) => Chain::Dumping,
         Command::Store(_, _) => Chain::Filling,
-        Command::Show(_) => Chain::Off,
-        Command::Change(_) => Chain::Off,
+        Command::Unknown | Command::Show(_) | Command::Change(_) => Chain::Off,
     }
 }
 
@@ -132,21 +118,18 @@ fn chain_after(ending: Ending, command: Command, chain: Chain) -> Chain
     ensures { result ≡ chain_after ending command chain }
 {
     match ending {
-        Ending::Complete => chain_by(command, chain),
         Ending::Failed => Chain::Off,
-        Ending::OneWord(_) => chain_by(command, chain),
-        Ending::TwoWords(_) => chain_by(command, chain),
+        Ending::Complete | Ending::OneWord(_) | Ending::TwoWords(_) => chain_by(command, chain),
     }
 }
 
 pub fn settle(command: Command, place: Place, access: Access, ending: Ending) -> Place
     ensures { result ≡ place_after command place access ending }
 {
-    let chain = place.chain;
     board::set_place(
         place,
         phase_after(ending),
-        chain_after(ending, command, chain),
+        chain_after(ending, command, place.chain),
         access::pointer_after(access, place.pointer),
         first_reply(ending),
     )

@@ -10,7 +10,7 @@ use Rattle.yarkovesh.specs.Exported.{listing_number}
 use Rattle.yarkovesh.specs.ExportedPage.{Numbers, rows, numbers_after, PageNumbersMeet}
 
 module _ {trace before after : List ℕ} {page : Page} (given : Numbers) (met : PageMeets trace before page after) where
-  pub refused_keeps_numbers : {why : Ground} {cycle : ℕ} → page.judged ≡ Err (record { ground = why; cycle = cycle })
+  pub refused_keeps_numbers : {why : Ground} {cycle : ℕ} → page.judged ≡ Err (record { why = why; cycle = cycle })
       → PageNumbersMeet trace before (listing_number (told page.judged)) after given given
   refused_keeps_numbers e =
       record {

@@ -9,16 +9,16 @@ ghost use Rattle.yarkovesh.specs.ExportedMend.{MendNumberMeets, UnmendNumberMeet
 ghost use Rattle.trace.specs.TraceReading.{told_listing as told};
 ghost use Rattle.mending.specs.MendingAnswer.{told_mending};
 
-use trace::Refused;
 use grounds::Ground;
 use summary::page;
+use trace::Refused;
 
 fn number_of(verdict: Result<(), Ground>) -> u32
     ensures { result ≡ verdict_number verdict }
 {
     match verdict {
         Ok(()) => 0,
-        Err(ground) => grounds::number_of(ground),
+        Err(why) => grounds::number_of(why),
     }
 }
 
@@ -27,8 +27,9 @@ fn listing_number(listed: Result<usize, Refused>) -> u64
 {
     match listed {
         Ok(items) => items as u64,
-        Err(Refused { ground, cycle }) => {
-            (grounds::number_of(ground) as u64) * 0x100000000 + (cycle as u64) % 0x100000000
+        Err(refused) => {
+            (grounds::number_of(refused.why) as u64) * 0x100000000
+                + (refused.cycle as u64) % 0x100000000
         }
     }
 }
@@ -53,7 +54,7 @@ pub extern "C" fn yarkovesh_run(
             let run_verdict = ran.verdict;
             number_of(run_verdict)
         }
-        Err(ground) => grounds::number_of(ground),
+        Err(why) => grounds::number_of(why),
     }
 }
 
@@ -85,10 +86,7 @@ pub extern "C" fn yarkovesh_page(
     let page = page::make_page(trace, index);
     let judged = page.judged;
     match judged {
-        Err(Refused {
-            ground: _,
-            cycle: _,
-        }) => listing_number(judged),
+        Err(_) => listing_number(judged),
         Ok(_) => {
             let page_counts = page.counts;
             let page_firsts = page.firsts;
@@ -109,7 +107,7 @@ fn mending_number(mended: Result<usize, Ground>) -> u64
 {
     match mended {
         Ok(changed) => changed as u64,
-        Err(ground) => (grounds::number_of(ground) as u64) * 0x100000000,
+        Err(why) => (grounds::number_of(why) as u64) * 0x100000000,
     }
 }
 

@@ -1,5 +1,6 @@
 -- Laws of events for programs in other languages: how many there are, how the loop over them goes on, and how large an answer's numbers are.
-use Rattle.std.specs.Prelude.{ℕ, suc, ◌+◌, ◌*◌, ◌/◌, ◌≤◌, ◌<◌, ◌≡◌, refl, Bool, true, false, cond, ◌&&◌, List, [], ◌∷◌, eqb, length, get_or, drop, set, Err, None, Ok, Option, Result, Some, ⊤}
+use Rattle.std.specs.Prelude.{ℕ, suc, ◌+◌, ◌*◌, ◌/◌, ◌≤◌, ◌<◌, ◌≡◌, refl, Bool, true, false, cond, ◌&&◌, List, [], ◌∷◌, eqb, length, get_or, drop, set, Err}
+use Rattle.std.specs.Prelude.{None, Ok, Option, Result, Some, ⊤}
 use Rattle.std.proofs.Common.{ap, ◌∙◌, drop-cons, le-leb}
 use Rattle.std.proofs.Math.Numerals.{add-one}
 use native.Mathlib.Omega.{arith}

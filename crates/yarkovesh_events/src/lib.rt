@@ -8,10 +8,10 @@ ghost use Rattle.registers.specs.Registers.{board_after};
 ghost use Rattle.bus.specs.EventAnswers.{told_captured, told_event};
 ghost use Rattle.yarkovesh_events.specs.ExportedEvents.{set_up, bus_of, event_at, events_of, answer_word, answers_to, EventsMeet};
 
-use firing::Seen;
 use board::{Board, Place};
 use command::{Command, DebugRegister, Target};
 use comparators::BusAccess;
+use firing::Seen;
 use grounds::Ground;
 use trigger::Event;
 
@@ -21,45 +21,44 @@ fn write(board: Board, register: DebugRegister, value: u32) -> Board
     registers::board_after(Command::Change(Target::Debug(register)), board, 0, value)
 }
 
-// The ten debug registers in the order of their numbers, and GO.
+// The ten debug registers in the order of their numbers, and GO. A line to each: a loop over the ten beside their values needs an invariant over both lists.
+#[tactic(auto, unfolding(crate::specs::ExportedEvents::set_up))]
 fn set_up(board: Board, values: &[u32; 10]) -> Board
     ensures { result ≡ set_up values.now board }
 {
-    let mut b = write(board, DebugRegister::Csr, values[0]);
-    b = write(b, DebugRegister::Baar, values[1]);
-    b = write(b, DebugRegister::Aatr, values[2]);
-    b = write(b, DebugRegister::Tdr, values[3]);
-    b = write(b, DebugRegister::Pbr, values[4]);
-    b = write(b, DebugRegister::Pbmr, values[5]);
-    b = write(b, DebugRegister::Abhr, values[6]);
-    b = write(b, DebugRegister::Ablr, values[7]);
-    b = write(b, DebugRegister::Dbr, values[8]);
-    b = write(b, DebugRegister::Dbmr, values[9]);
-    registers::board_after(Command::Change(Target::Run), b, 0, 0)
+    let board = write(board, DebugRegister::Csr, values[0]);
+    let board = write(board, DebugRegister::Baar, values[1]);
+    let board = write(board, DebugRegister::Aatr, values[2]);
+    let board = write(board, DebugRegister::Tdr, values[3]);
+    let board = write(board, DebugRegister::Pbr, values[4]);
+    let board = write(board, DebugRegister::Pbmr, values[5]);
+    let board = write(board, DebugRegister::Abhr, values[6]);
+    let board = write(board, DebugRegister::Ablr, values[7]);
+    let board = write(board, DebugRegister::Dbr, values[8]);
+    let board = write(board, DebugRegister::Dbmr, values[9]);
+    registers::board_after(Command::Change(Target::Run), board, 0, 0)
 }
 
 fn bus_of(attribute: u32, address: u32, lanes: u32) -> Option<BusAccess>
     ensures { result ≡ bus_of attribute address lanes }
 {
-    if attribute <= 255 {
-        return Some(BusAccess {
-            address: address,
-            attribute: attribute as u8,
-            lanes: lanes,
-        });
+    match u8::try_from(attribute) {
+        Ok(attribute) => Some(BusAccess {
+            address,
+            attribute,
+            lanes,
+        }),
+        Err(_) => None,
     }
-    None
 }
 
 fn read_event(words: &[u32], at: usize) -> Event
     requires { at + 3 < length words.now }
     ensures { result ≡ event_at words.now at }
 {
-    let pc = words[at];
-    let bus = bus_of(words[at + 1], words[at + 2], words[at + 3]);
     Event {
-        pc: pc,
-        bus: bus,
+        pc: words[at],
+        bus: bus_of(words[at + 1], words[at + 2], words[at + 3]),
         mark: None,
     }
 }
@@ -67,10 +66,7 @@ fn read_event(words: &[u32], at: usize) -> Event
 fn value_if(holds: bool, value: u32) -> u32
     ensures { result ≡ cond holds value 0 }
 {
-    if holds {
-        return value;
-    }
-    0
+    if holds { value } else { 0 }
 }
 
 fn count_captured(captured: Option<u32>) -> u32
@@ -89,30 +85,24 @@ fn word_of(outcome: Result<Seen, Ground>) -> u32
     match outcome {
         Err(ground) => grounds::number_of(ground) * 256,
         Ok(seen) => {
-            let captured = seen.captured;
             let halted = value_if(seen.halted, 4);
             let interrupt = value_if(seen.interrupt, 8);
-            let handed = count_captured(captured);
+            let handed = count_captured(seen.captured);
             seen.level + (halted + (interrupt + handed * 16))
         }
     }
 }
 
 // The answers to all events, from the front of the buffer on.
-fn take_events(board: Board, place: Place, words: &[u32], answers: &mut [u32])
+fn take_events(mut board: Board, place: Place, words: &[u32], answers: &mut [u32])
     requires { length (events_of words.now) ≤ length answers.old }
     ensures { answers.new ≡ sets answers.old 0 (answers_to (events_of words.now) board place) }
 {
-    let count = words.len() / 4;
-    let mut b = board;
-    let mut i = 0;
-    while i < count {
-        let event = read_event(words, i * 4);
-        let taken = bus::take_event(b, place, event);
-        let outcome = taken.outcome;
-        answers[i] = word_of(outcome);
-        b = taken.board;
-        i += 1;
+    // By index: event i stands at word 4i, and its answer at word i of a buffer that may be longer.
+    for i in 0..words.len() / 4 {
+        let taken = bus::take_event(board, place, read_event(words, i * 4));
+        answers[i] = word_of(taken.outcome);
+        board = taken.board;
     }
 }
 
@@ -129,9 +119,6 @@ pub extern "C" fn yarkovesh_events(
         return grounds::number_of(Ground::BufferTooShort);
     }
     let made = board::make(0);
-    let fresh = made.board;
-    let place = made.place;
-    let board = set_up(fresh, registers);
-    take_events(board, place, events, answers);
+    take_events(set_up(made.board, registers), made.place, events, answers);
     0
 }

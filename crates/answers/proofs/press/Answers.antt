@@ -2,4 +2,4 @@ use Rattle.answers.specs.SaidLaws.{breakpoint_outcome_lem}
 use Rattle.answers.proofs.press.Goals as goal
 
 pub returns : goal.returns
-returns c = let taken = c.press_breakpoint-answer.ensures in (rw (← taken.board) c.bench_after.ensures.0, rw (← breakpoint_outcome_lem taken, c.bench_after.ensures.1) c.put_breakpoint-end.ensures)
+returns c = let taken = c.press_breakpoint-answer.ensures in (rw taken.board, rw (← breakpoint_outcome_lem taken) c.put_breakpoint.ensures)

@@ -8,8 +8,5 @@ returns-then-put_bytes c = let put = c.put_bytes.ensures in
       bench = refl;
       memory = put.1;
       text = rw (sym put.0 ∙ c.if-put_bytes.true) (c.put_text-at.ensures
-          then c.put_number.ensures);
+          then c.put_number-end.ensures);
     }
-
-pub returns : goal.returns
-returns c = let put = c.put_bytes.ensures in record { bench = refl; memory = put.1; text = rw (sym put.0 ∙ c.if-put_bytes.false) c.put_unclear.ensures }

@@ -1,5 +1,5 @@
 use Rattle.answers.specs.SaidLaws.{packet_outcome_lem}
-use mathlib.Core.Path.{ap, ◌∙◌}
+use mathlib.Core.Path.{ap}
 use Rattle.board.specs.State.{State}
 use Rattle.answers.specs.Bench.{with_state}
 use Rattle.answers.proofs.take_word.Goals as goal
@@ -8,7 +8,7 @@ pub returns : goal.returns
 returns c = let taken = c.take_packet-answer.ensures in
     let bench = c.args.bench in
     record {
-      bench = c.bench_after.ensures.0 ∙ ap (λ (s : State). (with_state bench s).bench) taken.state;
+      bench = ap (λ (s : State). (with_state bench s).bench) taken.state;
       memory = ap (λ (s : State). s.memory) taken.state;
-      text = rw (← packet_outcome_lem taken, c.bench_after.ensures.1) c.put_reply-end.ensures;
+      text = rw (← packet_outcome_lem taken) c.put_reply.ensures;
     }

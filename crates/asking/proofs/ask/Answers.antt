@@ -1,10 +1,5 @@
 use Rattle.lent.specs.LentLaws.{lent_part}
-use lib.ListN.{length-take}
-use native.Mathlib.Omega.{arith}
 use Rattle.asking.proofs.ask.Goals as goal
-
-pub slice_bounds-converse-end-2 : goal.slice_bounds-converse-end-2
-slice_bounds-converse-end-2 c = simp length-take (omega (arith, c.lent_of-n.ensures))
 
 pub returns : goal.returns
 returns c = let at = c.args in

@@ -1,11 +1,12 @@
-use borrow.Author.Tests.{eq-eqb, ne_eqb}
+use native.Mathlib.Omega.{arith}
+use Rattle.std.proofs.lemmas.Bool.Decides.{nat_tests}
 use Rattle.console.specs.InputLines.{is_line_end}
 use Rattle.console.proofs.is_line_end.Goals as goal
 
-pub returns-then-byte-eq10 : goal.returns-then-byte-eq10
+pub returns-in-10 : goal.returns-in-10
 unfolding is_line_end
-returns-then-byte-eq10 c = rw (eq-eqb _ _ c.if-byte-eq10.true)
+returns-in-10 c = grind (arith, nat_tests)
 
-pub returns : goal.returns
+pub returns-in_default : goal.returns-in_default
 unfolding is_line_end
-returns c = rw (ne_eqb _ _ c.if-byte-eq10.false)
+returns-in_default c = grind (arith, nat_tests)

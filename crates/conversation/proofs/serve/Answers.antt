@@ -1,17 +1,15 @@
+use mathlib.Core.Path.{◌∙◌}
 use Rattle.course.proofs.CourseLaws.{some_said, none_said}
+use Rattle.conversation.proofs.serve.Goals.{then-answered-gt0, else-answered-gt0}
 use Rattle.conversation.proofs.serve.Goals as goal
 
--- src/lib.rt:137:9
-pub returns-then-end-gt0 : goal.returns-then-end-gt0
-returns-then-end-gt0 c = let a = c.answer-answered.ensures in
-    record {
-      board = a.bench;
-      memory = a.memory;
-      over = c.is_quit-over.ensures;
-      said = some_said _ a.text c.say.ensures c.if-end-gt0.true;
-    }
-
--- src/lib.rt:121:1
 pub returns : goal.returns
-returns c = let a = c.answer-answered.ensures in
-    record { board = a.bench; memory = a.memory; over = c.is_quit-over.ensures; said = none_said _ a.text c.if-end-gt0.false }
+returns c = let a = c.answer-answered.ensures in record {
+  board = a.bench;
+  memory = a.memory;
+  over = c.is_quit-over.ensures;
+  said = elim c.if-answered-gt0.branch [
+    | then-answered-gt0 w ↦ w.text-is ∙ some_said _ a.text w.say.ensures w.if-answered-gt0.true
+    | else-answered-gt0 w ↦ w.text-is ∙ none_said _ a.text w.if-answered-gt0.false
+  ];
+}

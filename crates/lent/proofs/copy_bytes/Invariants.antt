@@ -1,12 +1,7 @@
-use Prim.Native.Nat.{◌≤◌, ◌-◌}
-use lib.ListN.{length}
 use lib.Seq.{sets}
 use mathlib.Core.Path.{◌≡◌}
 use Rattle.lent.specs.Lent.{bytes_from}
 use Rattle.lent.proofs.copy_bytes.Given as goal
 
 abbrev pub invariant-loop-i : goal.invariant-loop-i
-invariant-loop-i l = (l.i ≤ l.count) × (length l.memory ≡ length l.initial.memory) × (l.memory ≡ sets l.initial.memory l.to (bytes_from l.line l.start l.i))
-
-abbrev pub decreases-loop-i : goal.decreases-loop-i
-decreases-loop-i l = l.count - l.i
+invariant-loop-i l = l.memory ≡ sets l.initial.memory l.to (bytes_from l.line l.start l.i)

@@ -7,15 +7,14 @@ use Rattle.listed.specs.ListedLaws.{items_on, items_out}
 use Rattle.listed.proofs.put_items.Goals as goal
 
 pub loop-k-init : goal.loop-k-init
-loop-k-init c = (omega arith, refl, all_remains _ _ _)
+loop-k-init c = (refl, all_remains _ _ _)
 
 pub loop-k-preserved : goal.loop-k-preserved
 loop-k-preserved c = let at = c.loop-k in (
-  omega arith,
   search rules,
-  rest_remains (rw (items_on _ at.k c.loop-k-test.true) at at.invariant.2) (c.put_text-at.ensures
+  rest_remains (rw (items_on _ at.k c.loop-k-test.true) at at.invariant.1) (c.put_text-at.ensures
       then c.put_item-at.ensures),
 )
 
 pub returns : goal.returns
-returns c = let at = c.loop-k in none_remains (rw (items_out _ at.k c.loop-k-test.false) at at.invariant.2)
+returns c = let at = c.loop-k in none_remains (rw (items_out _ at.k c.loop-k-test.false) at at.invariant.1)

@@ -1,4 +1,4 @@
-use Prim.Native.Nat.{◌≤◌, ◌-◌, ◌*◌}
+use Prim.Native.Nat.{◌*◌}
 use mathlib.Core.Path.{◌≡◌}
 use lib.ListN.{length, drop}
 use Rattle.text.specs.TextLaws.{Remains}
@@ -6,7 +6,4 @@ use Rattle.listed.specs.Listed.{items_text}
 use Rattle.listed.proofs.put_items.Given as goal
 
 abbrev pub invariant-loop-k : goal.invariant-loop-k
-invariant-loop-k l = (l.k ≤ l.items) × (length l.text ≡ length l.initial.text) × Remains l.initial.text l.from (items_text l.words) l.text l.at (items_text (drop (2 * l.k) l.words))
-
-abbrev pub decreases-loop-k : goal.decreases-loop-k
-decreases-loop-k l = l.items - l.k
+invariant-loop-k l = (length l.text ≡ length l.initial.text) × Remains l.initial.text l.from (items_text l.words) l.text l.at (items_text (drop (2 * l.k) l.words))

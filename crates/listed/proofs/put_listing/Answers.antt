@@ -5,8 +5,8 @@ use Rattle.text.specs.TextLaws.{◌then◌}
 use Rattle.listed.specs.ListedLaws.{refused_text, listed_text_lem, listed_room, listed_words}
 use Rattle.listed.proofs.put_listing.Goals as goal
 
-pub overflow_mul-end : goal.overflow_mul-end
-overflow_mul-end c = omega (arith, listed_room _ _ _ _ c.list_trace.ensures _ c.in-Ok.is)
+pub overflow_mul-items : goal.overflow_mul-items
+overflow_mul-items c = omega (arith, listed_room _ _ _ _ c.list_trace.ensures _ c.in-Ok.is)
 
 pub slice_bounds-put_items-end : goal.slice_bounds-put_items-end
 slice_bounds-put_items-end c = listed_room _ _ _ _ c.list_trace.ensures _ c.in-Ok.is

@@ -1,6 +1,5 @@
-use mathlib.Core.Path.{refl, ap}
+use mathlib.Core.Path.{ap}
 use Prim.Native.Nat.{◌+◌}
-use native.Mathlib.Nat.{zero-add}
 use native.Mathlib.Omega.{arith}
 use borrow.Author.Rules.{rules}
 use lib.ListN.{length, length-append}
@@ -11,9 +10,6 @@ use Rattle.trace.specs.ItemsFromLaws.{to_end_none, words_to_end}
 use Rattle.laws.specs.StoreLaws.{sets_append, length_stored}
 use Rattle.listing.proofs.put_from.Goals as goal
 
-pub loop-i-init : goal.loop-i-init
-loop-i-init c = (refl, zero-add _, refl)
-
 pub put_cycle-at-requires : goal.put_cycle-at-requires
 put_cycle-at-requires c = let a = c.args in
     let w = c.loop-i in
@@ -22,9 +18,6 @@ put_cycle-at-requires c = let a = c.args in
     let R = words (items_to_end trace (w.i + 1) (after w.carried (pst trace w.i))) in
     let e = ap length (words_to_end trace w.i w.carried (search rules)) in
     (search rules, omega (arith, e, length-append W R, w.invariant.1, w.invariant.0))
-
-pub after_cycle-carried-requires : goal.after_cycle-carried-requires
-after_cycle-carried-requires c = tt
 
 pub loop-i-preserved : goal.loop-i-preserved
 loop-i-preserved c = let a = c.args in
@@ -39,9 +32,6 @@ loop-i-preserved c = let a = c.args in
       omega (arith, p.place, w.invariant.1, ap length e, length-append W R),
       cc (p.place, p.stored, w.invariant.2, e, sets_append W R w.out w.at),
     )
-
-pub shape_of-out : goal.shape_of-out
-shape_of-out c = c.loop-i.invariant.0
 
 pub returns : goal.returns
 returns c = let w = c.loop-i in

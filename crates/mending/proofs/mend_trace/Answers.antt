@@ -26,7 +26,7 @@ returns-then-list-found c = let a = c.args in
 
 pub put_mended-requires : goal.put_mended-requires
 put_mended-requires c = let s = c.survey_trace-found.ensures in
-    record { trace_fits = (search rules, search rules); changes_fit = (omega (arith, s.changed), s.cut) }
+    record { trace_fits = (search rules, search rules); changes_fit = (omega (arith, s.changed), c.unwrap_or.ensures ∙ s.cut) }
 
 pub returns : goal.returns
 returns c = let a = c.args in

@@ -1,17 +1,12 @@
 -- The loop's invariant: both buffers have what the cycles before cycle i come to.
 use mathlib.Core.Path.{◌≡◌}
-use Prim.Native.Nat.{◌-◌, ◌≤◌}
 use lib.ListN.{length}
 use lib.Seq.{sets}
 use Rattle.mending.specs.Mending.{found, mended_pst, retold, changes_before}
 use Rattle.mending.proofs.put_mended.Given as goal
 
 abbrev pub invariant-loop-i : goal.invariant-loop-i
-invariant-loop-i l = (l.i ≤ length l.trace)
-    × (l.due ≡ (found l.trace l.i).due)
+invariant-loop-i l = (l.due ≡ (found l.trace l.i).due)
     × (l.at ≡ length (changes_before l.trace l.i))
     × (l.bytes ≡ sets l.initial.bytes 0 (retold (mended_pst l.trace) l.trace l.i))
     × (l.list ≡ sets l.initial.list 0 (changes_before l.trace l.i))
-
-abbrev pub decreases-loop-i : goal.decreases-loop-i
-decreases-loop-i l = length l.trace - l.i

@@ -9,12 +9,12 @@ returns-then-good c = record {
   lines = c.put_byte-at.ensures
       then c.put_decimal-at.ensures
       then (rw c.is_same-good.ensures at c.put_judged-end.ensures);
-  count = rw (rw c.is_same-good.ensures at c.if-good.true) c.one_less.ensures;
+  count = rw (rw c.is_same-good.ensures at c.if-good.true) c.saturating_sub-bad.ensures;
 }
 
-pub returns : goal.returns
+pub returns-else-good : goal.returns-else-good
 unfolding is_good
-returns c = record {
+returns-else-good c = record {
   lines = c.put_byte-at.ensures
       then c.put_decimal-at.ensures
       then (rw c.is_same-good.ensures at c.put_judged-end.ensures);

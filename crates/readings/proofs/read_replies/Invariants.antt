@@ -1,12 +1,8 @@
-use Prim.Native.Nat.{◌-◌}
 use mathlib.Core.Path.{◌≡◌}
-use lib.ListN.{length, drop}
+use lib.ListN.{drop}
 use Rattle.readings.specs.Reading.{reading_of}
 use Rattle.readings.specs.ReaderLaws.{reading_from}
 use Rattle.readings.proofs.read_replies.Given as goal
 
 abbrev pub invariant-loop-used : goal.invariant-loop-used
 invariant-loop-used l = reading_from l.kind l.reader l.used (drop l.used l.replies) ≡ reading_of l.kind l.replies
-
-abbrev pub decreases-loop-used : goal.decreases-loop-used
-decreases-loop-used l = length l.replies - l.used

@@ -1,5 +1,6 @@
 use Rattle.text.specs.TextLaws.{◌then◌}
+use borrow.Author.Rules.{rules}
 use Rattle.replies.proofs.put_pressed.Goals as goal
 
 pub returns : goal.returns
-returns c = c.put_text-at.ensures then c.put_halted.ensures
+returns c = search (rules, ◌then◌)

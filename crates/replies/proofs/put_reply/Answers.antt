@@ -3,6 +3,3 @@ use Rattle.replies.proofs.put_reply.Goals as goal
 
 pub returns-in-Ok : goal.returns-in-Ok
 returns-in-Ok c = rw c.in-Ok.is (c.put_text-at.ensures then c.put_hex.ensures)
-
-pub returns-in-Err : goal.returns-in-Err
-returns-in-Err c = rw c.in-Err.is c.put_refusal.ensures

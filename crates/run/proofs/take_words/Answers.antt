@@ -13,19 +13,13 @@ use Rattle.run.proofs.take_words.Goals.{in-None, in-Some}
 use Rattle.run.proofs.take_words.Goals as goal
 
 pub loop-i-init : goal.loop-i-init
-loop-i-init c = (omega arith, refl, refl, refl, refl, c.reply_of-reply.ensures)
+loop-i-init c = (refl, refl, refl, refl, c.reply_of-reply.ensures)
 
 pub bounds-replies-i : goal.bounds-replies-i
 bounds-replies-i c = omega arith
 
-pub overflow_add-i : goal.overflow_add-i
-overflow_add-i c = omega arith
-
 pub take_short_way-p-requires : goal.take_short_way-p-requires
 take_short_way-p-requires c = sym c.has_short_way.ensures ∙ c.if-has_short_way.true
-
-pub loop-i-smaller-then-has_short_way : goal.loop-i-smaller-then-has_short_way
-loop-i-smaller-then-has_short_way c = omega arith
 
 pub loop-i-preserved-then-has_short_way : goal.loop-i-preserved-then-has_short_way
 loop-i-preserved-then-has_short_way c = let at = c.loop-i in
@@ -33,11 +27,8 @@ loop-i-preserved-then-has_short_way c = let at = c.loop-i in
     let before = state_of at.b at.p at.memory in
     let short = short_way_step at.p.phase at.b at.p at.memory (get_or words at.i 0) refl (sym c.has_short_way.ensures ∙ c.if-has_short_way.true) in
     let step = ap (λ (p : Place). state_of at.b p at.memory) c.take_short_way-p.ensures ∙ short in
-    let on = goes_on words at.i before at.replies c.loop-i-test.true at.invariant.5 step in
-    (omega arith, at.invariant.1, simp length-set at.invariant.2, on.0 ∙ at.invariant.3, on.1 ∙ at.invariant.4, on.2)
-
-pub loop-i-smaller-in_default : goal.loop-i-smaller-in_default
-loop-i-smaller-in_default c = omega arith
+    let on = goes_on words at.i before at.replies c.loop-i-test.true at.invariant.4 step in
+    (at.invariant.0, simp length-set at.invariant.1, on.0 ∙ at.invariant.2, on.1 ∙ at.invariant.3, on.2)
 
 pub loop-i-preserved-in_default : goal.loop-i-preserved-in_default
 loop-i-preserved-in_default c = let at = c.loop-i in
@@ -52,11 +43,8 @@ loop-i-preserved-in_default c = let at = c.loop-i in
     let plan = c.plan_for-plan in
     let step = stepped_as at.b at.p at.memory word plan.ensures
     (ap (λ (p : Place). state_of c.match-held.b p at.memory) c.settle_without_work-p.ensures ∙ no_work c.match-held.b at.p at.memory plan.result c.in_default.in_default-own.keys2 ∙ ap (left plan.result) cleared) in
-    let on = goes_on words at.i before at.replies c.loop-i-test.true at.invariant.5 step in
-    (omega arith, at.invariant.1, simp length-set at.invariant.2, on.0 ∙ at.invariant.3, on.1 ∙ at.invariant.4, on.2)
-
-pub loop-i-smaller : goal.loop-i-smaller
-loop-i-smaller c = omega arith
+    let on = goes_on words at.i before at.replies c.loop-i-test.true at.invariant.4 step in
+    (at.invariant.0, simp length-set at.invariant.1, on.0 ∙ at.invariant.2, on.1 ∙ at.invariant.3, on.2)
 
 pub loop-i-preserved : goal.loop-i-preserved
 loop-i-preserved c = let at = c.loop-i in
@@ -65,14 +53,14 @@ loop-i-preserved c = let at = c.loop-i in
     let word = get_or words at.i 0 in
     let cleared = ap (λ f. left c.plan_for-plan.result (state_of (with_fault at.b f) at.p at.memory)) c.after_word-fault.ensures in
     let step = stepped_as at.b at.p at.memory word c.plan_for-plan.ensures (c.carry_out-next.ensures ∙ cleared) in
-    let on = goes_on words at.i before at.replies c.loop-i-test.true at.invariant.5 step in
-    (omega arith, c.carry_out-next.auto.memory ∙ at.invariant.1, simp length-set at.invariant.2, on.0 ∙ at.invariant.3, on.1 ∙ at.invariant.4, on.2)
+    let on = goes_on words at.i before at.replies c.loop-i-test.true at.invariant.4 step in
+    (c.carry_out-next.auto.memory ∙ at.invariant.0, simp length-set at.invariant.1, on.0 ∙ at.invariant.2, on.1 ∙ at.invariant.3, on.2)
 
 pub shape_of-memory : goal.shape_of-memory
-shape_of-memory c = c.loop-i.invariant.1
+shape_of-memory c = c.loop-i.invariant.0
 
 pub shape_of-replies : goal.shape_of-replies
-shape_of-replies c = c.loop-i.invariant.2
+shape_of-replies c = c.loop-i.invariant.1
 
 pub returns : goal.returns
-returns c = (sym (ran_out _ _ _ c.loop-i-test.false) ∙ c.loop-i.invariant.3, sym (written_out _ _ _ _ _ c.loop-i-test.false) ∙ c.loop-i.invariant.4)
+returns c = (sym (ran_out _ _ _ c.loop-i-test.false) ∙ c.loop-i.invariant.2, sym (written_out _ _ _ _ _ c.loop-i-test.false) ∙ c.loop-i.invariant.3)

@@ -1,9 +1,6 @@
 use Rattle.text.specs.TextLaws.{◌then◌}
 use Rattle.state_line.proofs.put_phase.Goals as goal
 
-pub returns-in-Rest : goal.returns-in-Rest
-returns-in-Rest c = rw c.in-Rest.is c.put_text.ensures
-
 pub returns-in-Due : goal.returns-in-Due
 returns-in-Due c = rw c.in-Due.is (c.put_text-at.ensures then c.put_number.ensures)
 

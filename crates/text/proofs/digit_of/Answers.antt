@@ -7,6 +7,6 @@ pub returns-then-low-lt10 : goal.returns-then-low-lt10
 unfolding digit_text
 returns-then-low-lt10 c = rw (lt-ltb _ _ c.if-low-lt10.true) (omega arith)
 
-pub returns : goal.returns
+pub returns-else-low-lt10 : goal.returns-else-low-lt10
 unfolding digit_text
-returns c = rw (le-ltb _ _ c.if-low-lt10.false) (omega arith)
+returns-else-low-lt10 c = rw (le-ltb _ _ c.if-low-lt10.false) (omega arith)

@@ -1,10 +1,7 @@
-use Prim.Native.Nat.{◌≤◌, ◌-◌, ◌/◌, ◌^◌}
+use Prim.Native.Nat.{◌-◌, ◌/◌, ◌^◌}
 use mathlib.Core.Path.{◌≡◌}
 use Rattle.text.specs.NumberText.{width_from}
 use Rattle.text.proofs.width_of.Given as goal
 
 abbrev pub invariant-loop-digits : goal.invariant-loop-digits
-invariant-loop-digits l = (l.digits ≤ 20) × (l.rest ≡ l.value / l.base ^ l.digits) × (width_from l.base l.value (20 - l.digits) l.digits ≡ width_from l.base l.value 19 1)
-
-abbrev pub decreases-loop-digits : goal.decreases-loop-digits
-decreases-loop-digits l = 20 - l.digits
+invariant-loop-digits l = (l.rest ≡ l.value / l.base ^ l.digits) × (width_from l.base l.value (20 - l.digits) l.digits ≡ width_from l.base l.value 19 1)

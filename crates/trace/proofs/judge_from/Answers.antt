@@ -8,7 +8,7 @@ use lib.ListN.{length}
 use Rattle.trace.specs.Items.{items_to_end}
 use Rattle.trace.specs.ItemsFromLaws.{count_to_end, to_end_none, items_from_le}
 use Rattle.trace.specs.TraceReading.{counted, too_long, judged_from, reading_from}
-use Rattle.trace.proofs.TraceReadingLaws.{earliest_reserved, earliest_too_soon, earliest_passes, earliest_ends, reading_short}
+use Rattle.trace.proofs.TraceReadingLaws.{earliest_refused, earliest_goes_on, earliest_ends, reading_short}
 use Rattle.trace.proofs.judge_from.Goals as goal
 
 pub returns-then-trace-gt65536 : goal.returns-then-trace-gt65536
@@ -18,24 +18,9 @@ returns-then-trace-gt65536 c = rw (lt-ltb 65536 (length c.args.trace.now) (omega
 pub loop-i-init : goal.loop-i-init
 loop-i-init c = (zero-add _, sym (reading_short _ _ _ (search rules)))
 
-pub is_reserved-requires : goal.is_reserved-requires
-is_reserved-requires c = tt
-
-pub returns-then-is_reserved : goal.returns-then-is_reserved
-returns-then-is_reserved c = let w = c.loop-i in
-    sym (earliest_reserved _ w.i _ _ (search rules) (sym c.is_reserved.ensures ∙ c.if-is_reserved.true)) ∙ w.invariant.1
-
-pub comes_too_soon-requires : goal.comes_too_soon-requires
-comes_too_soon-requires c = tt
-
-pub returns-then-comes_too_soon : goal.returns-then-comes_too_soon
-returns-then-comes_too_soon c = let w = c.loop-i in
-    let r = sym c.is_reserved.ensures ∙ c.if-is_reserved.false in
-    let s = sym c.comes_too_soon.ensures ∙ c.if-comes_too_soon.true in
-    sym (earliest_too_soon _ w.i _ _ (search rules) r s) ∙ w.invariant.1
-
-pub count_items-items-requires : goal.count_items-items-requires
-count_items-items-requires c = tt
+pub returns-in-Err : goal.returns-in-Err
+returns-in-Err c = let w = c.loop-i in
+    sym (earliest_refused _ w.i _ _ (search rules) (sym c.in-Err.ensures)) ∙ w.invariant.1
 
 pub overflow_add-items : goal.overflow_add-items
 overflow_add-items c = let w = c.loop-i in
@@ -44,16 +29,12 @@ overflow_add-items c = let w = c.loop-i in
     let e = count_to_end trace w.i w.carried (omega arith) in
     omega (arith, c.count_items-items.ensures trace w.i, items_from_le trace a.from a.found (length trace - a.from))
 
-pub after_cycle-carried-requires : goal.after_cycle-carried-requires
-after_cycle-carried-requires c = tt
-
 pub loop-i-preserved : goal.loop-i-preserved
 loop-i-preserved c = let w = c.loop-i in
     let trace = c.args.trace.now in
-    let r = sym c.is_reserved.ensures ∙ c.if-is_reserved.false in
-    let s = sym c.comes_too_soon.ensures ∙ c.if-comes_too_soon.false in
     let e = count_to_end trace w.i w.carried (search rules) in
-    rw (c.after_cycle-carried.ensures, c.count_items-items.ensures trace w.i) (omega (arith, w.invariant.0), sym (earliest_passes _ w.i _ _ (search rules) r s) ∙ w.invariant.1)
+    rw (c.after_cycle-carried.ensures, c.count_items-items.ensures trace w.i)
+    (omega (arith, w.invariant.0), sym (earliest_goes_on _ w.i _ _ (search rules) (sym c.in_default.ensures)) ∙ w.invariant.1)
 
 pub returns-then-carried-eq0 : goal.returns-then-carried-eq0
 returns-then-carried-eq0 c = let w = c.loop-i in
@@ -63,8 +44,8 @@ returns-then-carried-eq0 c = let w = c.loop-i in
     let e = ap length (to_end_none trace w.i w.carried (omega arith)) in
     ap counted (omega (arith, w.invariant.0)) ∙ rw (eq-eqb _ _ c.if-carried-eq0.true) at (sym (earliest_ends trace w.i w.carried all (omega arith))) ∙ w.invariant.1
 
-pub returns : goal.returns
-returns c = let w = c.loop-i in
+pub returns-else-carried-eq0 : goal.returns-else-carried-eq0
+returns-else-carried-eq0 c = let w = c.loop-i in
     let a = c.args in
     let trace = a.trace.now in
     let all = counted (length (items_to_end trace a.from a.found)) in

@@ -9,6 +9,3 @@ use Rattle.trace.proofs.judge_from.Given as goal
 abbrev pub invariant-loop-i : goal.invariant-loop-i
 invariant-loop-i l = (l.items + length (items_to_end l.trace l.i l.carried) ≡ length (items_to_end l.trace l.from l.initial.carried))
     × (earliest l.trace l.i l.carried (length l.trace - l.i) (ends_inside (counted (length (items_to_end l.trace l.from l.initial.carried)))) ≡ reading_from l.trace l.from l.initial.carried)
-
-abbrev pub decreases-loop-i : goal.decreases-loop-i
-decreases-loop-i l = length l.trace - l.i

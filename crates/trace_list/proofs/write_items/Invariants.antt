@@ -1,12 +1,9 @@
 use Rattle.trace_list.specs.ListerLines.{item_lines}
 use Rattle.console.specs.GatheringLaws.{Gathering}
-use Prim.Native.Nat.{◌≤◌, ◌-◌, ◌*◌}
+use Prim.Native.Nat.{◌*◌}
 use lib.ListN.{length, drop}
 use mathlib.Core.Path.{◌≡◌}
 use Rattle.trace_list.proofs.write_items.Given as goal
 
 abbrev pub invariant-loop-k : goal.invariant-loop-k
-invariant-loop-k l = (l.k ≤ l.items) × (length l.text ≡ length l.initial.text) × Gathering l.initial.text (item_lines l.words) l.text l.at (item_lines (drop (2 * l.k) l.words))
-
-abbrev pub decreases-loop-k : goal.decreases-loop-k
-decreases-loop-k l = l.items - l.k
+invariant-loop-k l = (length l.text ≡ length l.initial.text) × Gathering l.initial.text (item_lines l.words) l.text l.at (item_lines (drop (2 * l.k) l.words))

@@ -1,5 +1,6 @@
 use Rattle.text.specs.TextLaws.{◌then◌}
+use borrow.Author.Rules.{rules}
 use Rattle.visit_text.proofs.put_packet.Goals as goal
 
 pub returns : goal.returns
-returns c = c.put_text-at.ensures then c.put_hex.ensures
+returns c = search (rules, ◌then◌)

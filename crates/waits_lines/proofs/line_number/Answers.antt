@@ -1,23 +1,30 @@
-use Prim.Native.Nat.{suc, ◌-◌}
+use Prim.Native.Nat.{suc, ◌+◌}
 use mathlib.Core.Path.{◌≡◌, refl, sym, ◌∙◌}
-use mathlib.Core.Bool.{cond}
+use mathlib.Core.Bool.{Bool, true, false, cond}
+use Prim.Native.Nat.{ℕ, ◌≤◌}
+use mir.Val.{bool_byte}
 use native.Mathlib.Omega.{arith}
-use native.Mathlib.Numerals.{add-one}
 use Rattle.waits_lines.specs.WaitsLinesLaws.{numbered_on, numbered_out}
 use Rattle.waits_lines.proofs.line_number.Goals as goal
-use Rattle.waits_lines.proofs.line_number.Goals.{then-ends_one, else-ends_one}
 
-pub loop-i-init : goal.loop-i-init
-loop-i-init c = (omega arith, refl)
+one_more : (n : ℕ) {m : ℕ} (t : Bool) → m ≡ bool_byte t → n + m ≡ cond t (suc n) n
+one_more n true e = omega (arith, e)
+one_more n false e = omega (arith, e)
 
-pub loop-i-preserved : goal.loop-i-preserved
-loop-i-preserved c = let at = c.loop-i in
+at_most_one : {m : ℕ} (t : Bool) → m ≡ bool_byte t → m ≤ 1
+at_most_one true e = omega (arith, e)
+at_most_one false e = omega (arith, e)
+
+pub loop-byte-init : goal.loop-byte-init
+loop-byte-init c = (omega arith, refl)
+
+pub loop-byte-preserved : goal.loop-byte-preserved
+loop-byte-preserved c = let at = c.loop-byte in
     let one = c.ends_one in
-    let next : c.if-ends_one.n ≡ cond one.result (suc at.n) at.n =
-    elim c.if-ends_one.branch [ then-ends_one w ↦ w.n-is ∙ rw (w.if-ends_one.true, add-one) | else-ends_one w ↦ w.n-is ∙ rw w.if-ends_one.false ] in (
-      elim c.if-ends_one.branch [ then-ends_one w ↦ omega (arith, w.n-is, at.invariant.0) | else-ends_one w ↦ omega (arith, w.n-is, at.invariant.0) ],
-      rw (next, one.ensures) (sym (numbered_on at.n at.after_cr c.args.before.now at.i c.loop-i-test.true) ∙ at.invariant.1),
+    let more = one_more at.n one.result c.from-n.ensures in (
+      omega (arith, at_most_one one.result c.from-n.ensures, at.invariant.0),
+      rw (more, one.ensures) (sym (numbered_on at.n at.after_cr c.args.before.now at.byte-index c.loop-byte-test.true) ∙ at.invariant.1),
     )
 
 pub returns : goal.returns
-returns c = let at = c.loop-i in sym (numbered_out at.n at.after_cr c.args.before.now at.i c.loop-i-test.false) ∙ at.invariant.1
+returns c = let at = c.loop-byte in sym (numbered_out at.n at.after_cr c.args.before.now at.byte-index c.loop-byte-test.false) ∙ at.invariant.1

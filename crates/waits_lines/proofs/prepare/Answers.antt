@@ -1,4 +1,4 @@
 use Rattle.waits_lines.proofs.prepare.Goals as goal
 
 pub returns : goal.returns
-returns c = let said = c.answer_line-answered.ensures in rw (said.memory, said.bench)
+returns c = let said = c.answer_line.ensures in rw (said.memory, said.bench)

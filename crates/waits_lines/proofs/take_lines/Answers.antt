@@ -58,8 +58,8 @@ loop-from-preserved c =
       search rules,
       search rules,
       omega (arith, within),
-      omega (arith, c.add_packets-packets.ensures),
-      rw c.add_packets-packets.ensures (rests_on _ _ _ at.from end.result (left at.b at.memory) c.loop-from-test.true end.ensures at.invariant.4 asked taken.0 taken.1 taken.2),
+      omega (arith, c.saturating_add-packets.ensures),
+      rw c.saturating_add-packets.ensures (rests_on _ _ _ at.from end.result (left at.b at.memory) c.loop-from-test.true end.ensures at.invariant.4 asked taken.0 taken.1 taken.2),
     )
 
 pub returns : goal.returns

@@ -30,8 +30,8 @@ returns-then-first c = let args = c.args in
     }
 
 -- src/lib.rt:76:1
-pub returns : goal.returns
-returns c = let args = c.args in
+pub returns-else-first : goal.returns-else-first
+returns-else-first c = let args = c.args in
     let due = came_of args.due.now args.due_memory.now in
     let came = came_of args.text.now args.memory.now in
     let run = c.run_at-first.ensures in

@@ -2,14 +2,13 @@ use borrow.Author.Rules.{rules}
 use mathlib.Core.Path.{refl}
 use native.Mathlib.Omega.{arith}
 use borrow.Author.Tests.{le-leb}
-use Prim.Native.Nat.{◌-◌}
 use Rattle.waits_setting.specs.WaitsSetting.{came_of}
 use Rattle.waits_page.specs.WaitsPageLaws.{setting_judged, onward_next, onward_ends, worked_next, worked_ends}
 use Rattle.waits_page.proofs.put_settings.Goals as goal
 
 -- src/lib.rt:35:5
 pub loop-w-init : goal.loop-w-init
-loop-w-init c = (omega arith, refl, refl, refl, λ r page' judged. judged, refl)
+loop-w-init c = (refl, refl, refl, λ r page' judged. judged, refl)
 
 -- src/lib.rt:35:5
 pub loop-w-preserved : goal.loop-w-preserved
@@ -22,12 +21,11 @@ loop-w-preserved c = let at = c.loop-w in
       search rules,
       search rules,
       search rules,
-      search rules,
-      onward_next due _ _ _ _ _ at.w at.same c.loop-w-test.true at.invariant.4 (rw (at.invariant.2, at.invariant.3) at judged),
-      worked_next at.w c.loop-w-test.true run at.invariant.5,
+      onward_next due _ _ _ _ _ at.w at.same c.loop-w-test.true at.invariant.3 (rw (at.invariant.1, at.invariant.2) at judged),
+      worked_next at.w c.loop-w-test.true run at.invariant.4,
     )
 
 -- src/lib.rt:17:1
 pub returns : goal.returns
 returns c = let at = c.loop-w in
-    (onward_ends _ _ _ _ _ _ at.w at.same c.loop-w-test.false at.invariant.4, worked_ends at.w _ c.loop-w-test.false at.invariant.5)
+    (onward_ends _ _ _ _ _ _ at.w at.same c.loop-w-test.false at.invariant.3, worked_ends at.w _ c.loop-w-test.false at.invariant.4)

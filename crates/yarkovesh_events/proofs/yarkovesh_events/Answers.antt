@@ -8,4 +8,4 @@ pub take_events-requires : goal.take_events-requires
 take_events-requires c = rw (events_counted c.args.events.now) c.if-answers-events.false
 
 pub returns : goal.returns
-returns c = taken_meets _ _ _ c.if-answers-events.false c.make-made.ensures c.set_up-board.ensures c.take_events.ensures
+returns c = taken_meets _ _ _ c.if-answers-events.false c.make-made.ensures c.set_up.ensures c.take_events.ensures

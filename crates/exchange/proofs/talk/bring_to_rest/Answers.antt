@@ -1,4 +1,3 @@
-use Prim.Native.Nat.{◌-◌}
 use mathlib.Core.Path.{refl, sym, ◌∙◌}
 use native.Mathlib.Omega.{arith}
 use Rattle.round_trip.proofs.UnderwayLaws.{rest_begins, rest_goes_on, rest_is_reached}
@@ -10,8 +9,8 @@ loop-memory-init c = (refl, rest_begins c.requires)
 pub send-sent-requires : goal.send-sent-requires
 send-sent-requires c = (c.loop-memory.invariant.1.sound, omega arith)
 
-pub overflow_add-n : goal.overflow_add-n
-overflow_add-n c = omega (arith, c.loop-memory.invariant.1.within)
+pub overflow_add-nops : goal.overflow_add-nops
+overflow_add-nops c = omega (arith, c.loop-memory.invariant.1.within)
 
 pub loop-memory-smaller : goal.loop-memory-smaller
 loop-memory-smaller c = let more = sym c.is_resting.ensures ∙ c.loop-memory-test.true in

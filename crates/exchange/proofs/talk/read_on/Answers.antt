@@ -1,4 +1,3 @@
-use Prim.Native.Nat.{◌-◌}
 use mathlib.Core.Path.{refl, sym, ap, ◌∙◌}
 use native.Mathlib.Omega.{arith}
 use Rattle.board.specs.State.{state_of}
@@ -27,7 +26,7 @@ loop-request-preserved c = let at = c.loop-request in
     let more = sym c.is_done.ensures ∙ c.loop-request-test.true in
     let word = c.word_at-word.ensures ∙ c.requires.3 at.packets in
     let read = rw (c.kind_of.ensures, sent.ensures.0) at c.take_reply-reader.ensures in
-    let left = sent.ensures.1 ∙ ap (stepped (state_of at.b at.p at.memory)) word in
+    let left = sent.ensures.1 ∙ ap (stepped (state_of at.board at.place at.memory)) word in
     (sent.auto.memory ∙ at.invariant.0, rw (read, left) (talk_goes_on at.invariant.1 more))
 
 pub shape_of-memory : goal.shape_of-memory

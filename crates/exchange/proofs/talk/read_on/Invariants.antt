@@ -7,7 +7,7 @@ use Rattle.round_trip.proofs.UnderwayLaws.{TalkUnderway}
 use Rattle.exchange.proofs.talk.read_on.Given as goal
 
 abbrev pub invariant-loop-request : goal.invariant-loop-request
-invariant-loop-request l = (length l.memory ≡ length l.initial.memory) × TalkUnderway l.request l.packets l.reader (state_of l.b l.p l.memory) (state_of l.initial.b l.initial.p l.initial.memory)
+invariant-loop-request l = (length l.memory ≡ length l.initial.memory) × TalkUnderway l.request l.packets l.reader (state_of l.board l.place l.memory) (state_of l.initial.board l.initial.place l.initial.memory)
 
 abbrev pub decreases-loop-request : goal.decreases-loop-request
 decreases-loop-request l = talk_budget + 1 - l.packets

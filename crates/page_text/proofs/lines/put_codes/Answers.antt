@@ -7,14 +7,13 @@ use borrow.Author.Rules.{rules}
 use Rattle.page_text.proofs.lines.put_codes.Goals as goal
 
 pub loop-code-init : goal.loop-code-init
-loop-code-init c = (omega arith, refl, all_remains _ _ _)
+loop-code-init c = (refl, all_remains _ _ _)
 
 pub loop-code-preserved : goal.loop-code-preserved
 loop-code-preserved c = let here = c.loop-code in (
-  omega arith,
   search rules,
-  rest_remains (rw (codes_on _ _ _ here.code c.loop-code-test.true) at here.invariant.2) c.put_code-at.ensures,
+  rest_remains (rw (codes_on _ _ _ here.code c.loop-code-test.true) at here.invariant.1) c.put_code-at.ensures,
 )
 
 pub returns : goal.returns
-returns c = let here = c.loop-code in none_remains (rw (codes_end _ _ _ here.code c.loop-code-test.false) at here.invariant.2)
+returns c = let here = c.loop-code in none_remains (rw (codes_end _ _ _ here.code c.loop-code-test.false) at here.invariant.1)

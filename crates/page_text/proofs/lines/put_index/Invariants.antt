@@ -1,4 +1,3 @@
-use Prim.Native.Nat.{◌≤◌, ◌-◌}
 use mathlib.Core.Path.{◌≡◌}
 use lib.ListN.{length, drop}
 use Rattle.text.specs.TextLaws.{Remains}
@@ -6,7 +5,4 @@ use Rattle.page_text.specs.PageText.{index_from}
 use Rattle.page_text.proofs.lines.put_index.Given as goal
 
 abbrev pub invariant-loop-k : goal.invariant-loop-k
-invariant-loop-k l = (l.k ≤ length l.index) × (length l.text ≡ length l.initial.text) × Remains l.initial.text l.from (index_from 0 l.index) l.text l.at (index_from l.k (drop l.k l.index))
-
-abbrev pub decreases-loop-k : goal.decreases-loop-k
-decreases-loop-k l = length l.index - l.k
+invariant-loop-k l = (length l.text ≡ length l.initial.text) × Remains l.initial.text l.from (index_from 0 l.index) l.text l.at (index_from l.k (drop l.k l.index))

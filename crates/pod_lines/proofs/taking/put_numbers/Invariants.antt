@@ -1,17 +1,12 @@
-use mathlib.Core.Path.{◌≡◌}
-use Prim.Native.Nat.{◌+◌, ◌-◌, ◌≤◌}
-use lib.ListN.{length}
-use Rattle.words.specs.LineWords.{words_from}
-use mathlib.Core.Bool.{true}
-use lib.Seq.{sets}
+use Rattle.std.proofs.Common.{◌≡◌, ◌≤◌, ◌+◌, true, length}
+use Rattle.std.proofs.lemmas.List.Edits.{sets}
+use Rattle.words.specs.WordSteps.{words_left}
 use Rattle.pod_lines.specs.Taking.{all_numerals, values}
 use Rattle.pod_lines.proofs.taking.put_numbers.Given as goal
 
-abbrev pub invariant-loop-from : goal.invariant-loop-from
-invariant-loop-from l = (length l.buffer ≡ length l.initial.buffer)
-    × (all_numerals (words_from l.line l.at) ≡ true)
-    × (l.count + length (words_from l.line l.at) ≤ length l.buffer)
-    × (sets l.initial.buffer 0 (values (words_from l.line l.from)) ≡ sets l.buffer l.count (values (words_from l.line l.at)))
-
-abbrev pub decreases-loop-from : goal.decreases-loop-from
-decreases-loop-from l = length l.line - l.at
+abbrev pub invariant-loop-word : goal.invariant-loop-word
+invariant-loop-word l = record {
+  numerals : all_numerals (words_left l.word-iterator) ≡ true;
+  room : l.count + length (words_left l.word-iterator) ≤ length l.buffer;
+  put : sets l.initial.buffer 0 (values (words_left l.words)) ≡ sets l.buffer l.count (values (words_left l.word-iterator));
+}

@@ -1,9 +1,6 @@
-use mathlib.Core.Path.{sym, ◌∙◌}
-use Rattle.numbers.specs.NumberLaws.{numeral_value, numeral_none}
+use Rattle.numbers.specs.Numbers.{numeral}
 use Rattle.pod_lines.proofs.taking.value_of.Goals as goal
 
-pub returns-in-Some : goal.returns-in-Some
-returns-in-Some c = sym (numeral_value c.args.word.now _ (sym c.read_number.ensures ∙ c.in-Some.is)).1
-
-pub returns-in-None : goal.returns-in-None
-returns-in-None c = let none = numeral_none c.args.word.now (sym c.read_number.ensures ∙ c.in-None.is) in cc c.requires
+pub returns : goal.returns
+unfolding numeral
+returns c = rw (c.unwrap_or.ensures, c.read_number.ensures, c.requires)

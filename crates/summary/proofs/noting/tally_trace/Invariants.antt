@@ -1,7 +1,6 @@
 -- The loop's invariant: the rows are the tally of the items before cycle i, the entries those of the cycles before it, and judging from cycle i on
 -- is judging the trace.
 use mathlib.Core.Path.{◌≡◌}
-use Prim.Native.Nat.{◌-◌, ◌≤◌}
 use lib.ListN.{length}
 use lib.Seq.{sets}
 use Rattle.cycle.specs.Cycle.{carried_into}
@@ -12,8 +11,5 @@ use Rattle.summary.specs.TallyMirror.{Tallied}
 use Rattle.summary.proofs.noting.tally_trace.Given as goal
 
 abbrev pub invariant-loop-i : goal.invariant-loop-i
-invariant-loop-i l = (l.i ≤ length l.trace) × (l.carried ≡ carried_into l.trace l.i) × (l.items ≡ length (items_before l.trace l.i)) × Tallied (items_before l.trace l.i) l.counts l.firsts l.lasts
+invariant-loop-i l = (l.carried ≡ carried_into l.trace l.i) × (l.items ≡ length (items_before l.trace l.i)) × Tallied (items_before l.trace l.i) l.noted
     × (l.entries ≡ sets l.initial.entries 0 (first_entries l.trace (entry_count l.i))) × Judging l.trace l.i l.carried
-
-abbrev pub decreases-loop-i : goal.decreases-loop-i
-decreases-loop-i l = length l.trace - l.i

@@ -6,15 +6,12 @@ use native.Mathlib.Omega.{arith}
 use lib.ListN.{length, replicate, length-replicate}
 use lib.Seq.{paste}
 use Rattle.trace.specs.TraceReading.{told_listing}
-use Rattle.summary.specs.NotingLaws.{nothing_noted, starts_tallied}
+use Rattle.summary.specs.NotingLaws.{starts_tallied}
 use Rattle.summary.specs.PassLaws.{pass_read}
 use Rattle.index.specs.Index.{entry_count}
 use Rattle.summary.specs.PageLaws.{page_refused, page_short, page_read}
 use borrow.Author.Rules.{rules}
 use Rattle.summary.proofs.page.make_page.Goals as goal
-
-pub tally_trace-judged-requires : goal.tally_trace-judged-requires
-tally_trace-judged-requires c = nothing_noted
 
 pub returns-then-index-needed : goal.returns-then-index-needed
 returns-then-index-needed c = page_short _ _ _ _ (pass_read c.tally_trace-judged.ensures c.in-Ok.is).reads (omega arith) c.refuse-then-index-needed.ensures
@@ -45,5 +42,5 @@ pub returns-else-index-needed : goal.returns-else-index-needed
 returns-else-index-needed c = let p = pass_read c.tally_trace-judged.ensures c.in-Ok.is in
     let a = c.args in
     page_read _ _ _ _ p.reads (replicate 256 0) (omega arith) (omega (arith, p.short, length-replicate {A = ℕ} 256 0))
-    (rw (c.rate_of-rate.ensures, starts_tallied p.tally, ← p.tally.count, ← p.tally.first, ← p.tally.last))
+    (rw (c.in-Ok.is, c.rate_of.ensures, starts_tallied _ p.tally.count, ← p.tally.count, ← p.tally.first, ← p.tally.last))
     (c.copy_entries.ensures ∙ ap (λ (l : List ℕ). paste a.index.now 0 l (entry_count (length a.trace.now))) p.index)

@@ -1,8 +1,0 @@
-use borrow.Author.Tests.{le-leb, lt-leb}
-use Rattle.board_lines.proofs.events.access_line.Goals as goal
-
-pub returns-then-attribute-le255 : goal.returns-then-attribute-le255
-returns-then-attribute-le255 c = rw (le-leb _ _ c.if-attribute-le255.true)
-
-pub returns : goal.returns
-returns c = rw (lt-leb _ _ c.if-attribute-le255.false)

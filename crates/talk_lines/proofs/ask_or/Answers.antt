@@ -1,7 +1,0 @@
-use Rattle.talk_lines.proofs.ask_or.Goals as goal
-
-pub returns-in-Some : goal.returns-in-Some
-returns-in-Some c = rw c.in-Some.is
-
-pub returns-in-None : goal.returns-in-None
-returns-in-None c = rw c.in-None.is

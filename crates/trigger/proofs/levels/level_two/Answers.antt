@@ -1,4 +1,0 @@
-use Rattle.trigger.proofs.levels.level_two.Goals as goal
-
-pub returns : goal.returns
-returns c = rw (← c.is_set.ensures, ← c.level_of.ensures)
