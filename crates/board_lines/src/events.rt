@@ -53,8 +53,10 @@ fn halt_form(before: Numbers, privilege: &[u8]) -> BoardLine
 fn halt_line(mut words: Words, before: Numbers) -> BoardLine
     ensures { result ≡ halt_line before (words_left words.entry) }
 {
-    match (words.next(), words.next()) {
-        (Some(privilege), None) => halt_form(before, privilege),
+    match words.next() {
+        Some(privilege) if words.line.len() <= words::word_start(words.line, words.at) => {
+            halt_form(before, privilege)
+        }
         _ => BoardLine::Unclear,
     }
 }

@@ -124,12 +124,17 @@ fn hex_line(close: usize, address: Option<u32>, digits: &[u8]) -> BoardLine
 fn bytes_line(mut words: Words) -> BoardLine
     ensures { result ≡ bytes_line (last_end words.entry.line.now) (words_left words.entry) }
 {
-    match (words.next(), words.next(), words.next()) {
-        (Some(address), Some(digits), None) => {
-            hex_line(words.at, numbers::read_number(address), digits)
-        }
-        _ => BoardLine::Unclear,
+    let Some(address) = words.next() else {
+        return BoardLine::Unclear;
+    };
+    let Some(digits) = words.next() else {
+        return BoardLine::Unclear;
+    };
+    // A third word is not passed over, only looked for.
+    if words::word_start(words.line, words.at) < words.line.len() {
+        return BoardLine::Unclear;
     }
+    hex_line(words.at, numbers::read_number(address), digits)
 }
 
 // A line that is not silent, nor too long.

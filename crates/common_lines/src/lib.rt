@@ -32,8 +32,9 @@ fn read_words(line: &[u8]) -> CommonLine
     ensures { result ≡ common_words (words line.now) }
 {
     let mut words = Words { line, at: 0 };
-    match (words.next(), words.next()) {
-        (Some(name), None) => read_name(name),
+    match words.next() {
+        // A second word is not passed over, only looked for.
+        Some(name) if line.len() <= words::word_start(line, words.at) => read_name(name),
         _ => CommonLine::Other,
     }
 }

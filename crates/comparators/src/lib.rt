@@ -40,31 +40,31 @@ fn compares(lanes: u32, di: bool, debug: board::Debug, access: BusAccess) -> boo
     ensures { result ≡ comparator lanes di debug access }
 {
     let agreed = mask::agrees(debug.dbmr | !lanes, access.lanes, debug.dbr);
-    lanes::carries_all(lanes, access) && mask::turn(di, agreed)
+    lanes::carries_all(lanes, access) & mask::turn(di, agreed)
 }
 
 #[tactic(auto, unfolding(crate::specs::Comparators::some_set))]
 fn some_compares(level: Level, di: bool, debug: board::Debug, access: BusAccess) -> bool
     ensures { result ≡ some_comparator level di debug access }
 {
-    (level.edlw && compares(0xFFFFFFFF, di, debug, access))
-        || (level.edwl && compares(0x0000FFFF, di, debug, access))
-        || (level.edwu && compares(0xFFFF0000, di, debug, access))
-        || (level.edll && compares(0x000000FF, di, debug, access))
-        || (level.edlm && compares(0x0000FF00, di, debug, access))
-        || (level.edum && compares(0x00FF0000, di, debug, access))
-        || (level.eduu && compares(0xFF000000, di, debug, access))
+    (level.edlw & compares(0xFFFFFFFF, di, debug, access))
+        | (level.edwl & compares(0x0000FFFF, di, debug, access))
+        | (level.edwu & compares(0xFFFF0000, di, debug, access))
+        | (level.edll & compares(0x000000FF, di, debug, access))
+        | (level.edlm & compares(0x0000FF00, di, debug, access))
+        | (level.edum & compares(0x00FF0000, di, debug, access))
+        | (level.eduu & compares(0xFF000000, di, debug, access))
 }
 
 #[tactic(auto, unfolding(crate::specs::Comparators::data_enabled))]
 fn is_data_enabled(level: Level) -> bool
     ensures { result ≡ data_enabled level }
 {
-    level.edlw || level.edwl || level.edwu || level.edll || level.edlm || level.edum || level.eduu
+    level.edlw | level.edwl | level.edwu | level.edll | level.edlm | level.edum | level.eduu
 }
 
 pub fn holds_data(level: Level, debug: board::Debug, access: BusAccess) -> bool
     ensures { result ≡ data_holds level debug access }
 {
-    !is_data_enabled(level) || some_compares(level, level.di, debug, access)
+    !is_data_enabled(level) | some_compares(level, level.di, debug, access)
 }

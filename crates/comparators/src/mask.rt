@@ -13,7 +13,7 @@ pub fn agrees(mask: u32, a: u32, b: u32) -> bool
     let upper_middle = (left >> 16) % 256 == (right >> 16) % 256;
     let lower_middle = (left >> 8) % 256 == (right >> 8) % 256;
     let lower_lower = left % 256 == right % 256;
-    upper_upper && upper_middle && lower_middle && lower_lower
+    upper_upper & upper_middle & lower_middle & lower_lower
 }
 
 pub fn turn(invert: bool, agreed: bool) -> bool

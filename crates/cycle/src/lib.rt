@@ -69,17 +69,24 @@ pub fn is_marker(pst: u8) -> bool
     matches!(pst, 8..=11)
 }
 
+// A bit for each PST below 8, and no jump.
 fn is_single(pst: u8) -> bool
     ensures { result ≡ single pst }
 {
-    matches!(pst, 1 | 3 | 4 | 5 | 7)
+    pst < 8 && (0xBAu8 >> pst) & 1 == 1
 }
 
 // Whether a cycle gives an item of its own, beside a value's.
 pub fn gives_own(run: u8, pst: u8) -> bool
     ensures { result ≡ gives_own run pst }
 {
-    if pst < 12 { is_single(pst) } else { pst != run }
+    if pst < 8 {
+        is_single(pst)
+    } else if pst < 12 {
+        false
+    } else {
+        pst != run
+    }
 }
 
 // Whether a cycle is a marker before the last nibble of the transfer under way.
@@ -106,23 +113,24 @@ pub fn count_nibbles(marker: u8) -> u8
 pub fn after_cycle(carried: Carried, pst: u8) -> Carried
     ensures { result ≡ after carried pst }
 {
-    let due = carried.due.saturating_sub(1);
-    match pst {
-        0..=7 => Carried {
-            due,
+    if pst < 8 {
+        Carried {
+            due: carried.due.saturating_sub(1),
             run: 0,
             ..carried
-        },
-        8..=11 => Carried {
+        }
+    } else if pst < 12 {
+        Carried {
             marker: pst,
             due: count_nibbles(pst),
             ..carried
-        },
-        _ => Carried {
-            due,
+        }
+    } else {
+        Carried {
+            due: carried.due.saturating_sub(1),
             run: pst,
             ..carried
-        },
+        }
     }
 }
 
@@ -136,7 +144,8 @@ fn ddata_at(trace: &[u8], i: usize) -> u8
 fn first_nibble(last: usize, marker: u8) -> usize
     ensures { result ≡ last + 1 - nibbles marker }
 {
-    last.saturating_sub(usize::from(count_nibbles(marker)) - 1)
+    let n = usize::from(count_nibbles(marker));
+    if last < n { 0 } else { last - n + 1 }
 }
 
 // The value of a marker, read back from its nibbles once the last has come.

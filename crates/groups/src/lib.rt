@@ -26,7 +26,7 @@ pub fn pc_group(level: Level, debug: board::Debug, pc: u32) -> Group
 fn is_inside(debug: board::Debug, address: u32) -> bool
     ensures { result ≡ inside debug address }
 {
-    debug.ablr <= address && address <= debug.abhr
+    (debug.ablr <= address) & (address <= debug.abhr)
 }
 
 #[tactic(auto, unfolding(crate::specs::Groups::address_matches))]
@@ -34,7 +34,7 @@ fn matches_address(level: Level, debug: board::Debug, address: u32) -> bool
     ensures { result ≡ address_matches level debug address }
 {
     let within = is_inside(debug, address);
-    (level.eal && address == debug.ablr) || (level.ear && within) || (level.eai && !within)
+    (level.eal & (address == debug.ablr)) | (level.ear & within) | (level.eai & !within)
 }
 
 #[tactic(auto, unfolding(crate::specs::Groups::attribute_agrees))]
@@ -55,8 +55,8 @@ fn holds_address(level: Level, debug: board::Debug, bus: Option<BusAccess>) -> b
         None => false,
         Some(access) => {
             matches_address(level, debug, access.address)
-                && agrees_attribute(debug, access.attribute)
-                && comparators::holds_data(level, debug, access)
+                & agrees_attribute(debug, access.attribute)
+                & comparators::holds_data(level, debug, access)
         }
     }
 }
@@ -66,7 +66,7 @@ pub fn address_group(level: Level, debug: board::Debug, bus: Option<BusAccess>) 
     ensures { result ≡ address_group level debug bus }
 {
     Group {
-        enabled: level.eal || level.ear || level.eai,
+        enabled: level.eal | level.ear | level.eai,
         holds: holds_address(level, debug, bus),
     }
 }
@@ -76,10 +76,10 @@ pub fn join(t: bool, pc: Group, address: Group) -> bool
     ensures { result ≡ joined t pc address }
 {
     if t {
-        (pc.enabled && pc.holds) || (address.enabled && address.holds)
+        (pc.enabled & pc.holds) | (address.enabled & address.holds)
     } else {
-        (pc.enabled || address.enabled)
-            && (!pc.enabled || pc.holds)
-            && (!address.enabled || address.holds)
+        (pc.enabled | address.enabled)
+            & (!pc.enabled | pc.holds)
+            & (!address.enabled | address.holds)
     }
 }

@@ -23,7 +23,7 @@ fn is_fired(level: Level, debug: board::Debug, event: Event) -> bool
 {
     let pc = groups::pc_group(level, debug, event.pc);
     let address = groups::address_group(level, debug, event.bus);
-    level.ebl && groups::join(level.t, pc, address)
+    level.ebl & groups::join(level.t, pc, address)
 }
 
 // The level that the event fires, or 0.
