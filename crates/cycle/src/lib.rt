@@ -76,7 +76,7 @@ fn is_single(pst: u8) -> bool
     pst < 8 && (0xBAu8 >> pst) & 1 == 1
 }
 
-// Whether a cycle gives an item of its own, beside a value's.
+// Whether a cycle gives an item of its own, beside a value's. PST below 8 is asked for first, as in what else is asked of a cycle.
 pub fn gives_own(run: u8, pst: u8) -> bool
     ensures { result ≡ gives_own run pst }
 {
@@ -109,7 +109,7 @@ pub fn count_nibbles(marker: u8) -> u8
     2 * (marker % 4 + 1)
 }
 
-// What is under way after a cycle.
+// What is under way after a cycle. By tests and no match: they can be foreseen, and reading takes half the time.
 pub fn after_cycle(carried: Carried, pst: u8) -> Carried
     ensures { result ≡ after carried pst }
 {
@@ -140,7 +140,7 @@ fn ddata_at(trace: &[u8], i: usize) -> u8
     trace.get(i).map_or(0, |byte| byte % 16)
 }
 
-// The cycle of a value's first nibble.
+// The cycle of a value's first nibble. Chosen once: saturating_sub would be worked out for each nibble.
 fn first_nibble(last: usize, marker: u8) -> usize
     ensures { result ≡ last + 1 - nibbles marker }
 {
