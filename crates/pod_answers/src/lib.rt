@@ -34,6 +34,10 @@ fn read(request: Request, replies: &[u32], count: usize, text: &mut [u8]) -> usi
 pub fn answer(line: &[u8], text: &mut [u8]) -> usize
     ensures { Puts text.old 0 (pod_said line.now) text.new result }
 {
+    // A line of no bytes asks for nothing: no room for replies is made.
+    if line.is_empty() {
+        return 0;
+    }
     let mut replies = [0u32; 2048];
     match pod_lines::read_line(line, &mut replies) {
         PodLine::Nothing => 0,
