@@ -25,20 +25,31 @@ pub struct Survey {
     pub cut: Option<usize>,
 }
 
-// A cycle by the first two rules where so many nibbles are due. One arm for each kind of PST: what is kept of it decides what is due next.
+// A cycle by the first two rules where so many nibbles are due. One arm for each kind of PST: what is kept of it decides what is due next, and it is worked out there, not before, which takes longer.
 fn judge_cycle(due: u8, pst: u8) -> Kept
     ensures { result ≡ kept_after due pst }
 {
-    let less = due.saturating_sub(1);
     match pst {
-        0..8 if cycle::is_reserved(pst) => Kept { pst: 0, due: less },
-        0..8 => Kept { pst, due: less },
-        8..12 if 2 <= due => Kept { pst: 0, due: less },
+        0..8 if cycle::is_reserved(pst) => Kept {
+            pst: 0,
+            due: due.saturating_sub(1),
+        },
+        0..8 => Kept {
+            pst,
+            due: due.saturating_sub(1),
+        },
+        8..12 if 2 <= due => Kept {
+            pst: 0,
+            due: due.saturating_sub(1),
+        },
         8..12 => Kept {
             pst,
             due: cycle::count_nibbles(pst),
         },
-        _ => Kept { pst, due: less },
+        _ => Kept {
+            pst,
+            due: due.saturating_sub(1),
+        },
     }
 }
 
