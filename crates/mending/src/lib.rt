@@ -25,7 +25,8 @@ pub struct Survey {
     pub cut: Option<usize>,
 }
 
-// A cycle by the first two rules where so many nibbles are due. One arm for each kind of PST: what is kept of it decides what is due next, and it is worked out there, not before, which takes longer.
+// A cycle by the first two rules where so many nibbles are due. One arm for each kind of PST: what is kept of it decides what is due next.
+// That is worked out in the arm: one sum before the arms makes each cycle wait longer for the one before it.
 fn judge_cycle(due: u8, pst: u8) -> Kept
     ensures { result ≡ kept_after due pst }
 {
