@@ -109,28 +109,26 @@ pub fn count_nibbles(marker: u8) -> u8
     2 * (marker % 4 + 1)
 }
 
-// What is under way after a cycle. By tests and no match: they can be foreseen, and reading takes half the time.
+// What is under way after a cycle. What is due is worked out in the arm: one sum before the arms makes each cycle wait longer for the one before it.
 pub fn after_cycle(carried: Carried, pst: u8) -> Carried
     ensures { result ≡ after carried pst }
 {
-    if pst < 8 {
-        Carried {
+    match pst {
+        0..=7 => Carried {
             due: carried.due.saturating_sub(1),
             run: 0,
             ..carried
-        }
-    } else if pst < 12 {
-        Carried {
+        },
+        8..=11 => Carried {
             marker: pst,
             due: count_nibbles(pst),
             ..carried
-        }
-    } else {
-        Carried {
+        },
+        _ => Carried {
             due: carried.due.saturating_sub(1),
             run: pst,
             ..carried
-        }
+        },
     }
 }
 
